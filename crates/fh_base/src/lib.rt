@@ -1,0 +1,24 @@
+//! Names, and the small traits by which the host meets the world outside.
+//!
+//! Promised to the layers above: `QueueName::read` takes exactly the texts of its grammar. A `Source`
+//! gives its bytes in order and says how many may still come; a `Sink` keeps what it took, in order.
+//! Each has a count of faults that never falls, and a call fails only where the count rose in it. What
+//! an object holds is told or not, and the clauses on content hold where it is. The objects in memory
+//! tell all, and fail exactly at the calls of their plan; the adapters over real streams tell nothing.
+#![tactic(auto)]
+
+mod both;
+mod fault_plan;
+mod faults;
+mod queue_name;
+mod sink;
+mod source;
+mod status;
+
+pub use both::Both;
+pub use fault_plan::{Failing, FaultPlan};
+pub use faults::{Failed, NoMemory};
+pub use queue_name::QueueName;
+pub use sink::{MemorySink, Sink, StreamSink};
+pub use source::{MemorySource, Source, StreamSource};
+pub use status::Status;
