@@ -1,0 +1,25 @@
+use Rattle.std.proofs.Common.{◌∙◌, refl, arith}
+use Rattle.fh_journal.proofs.Filling.{starts, goes_on, fits, ends}
+use Rattle.fh_journal.proofs.reading.read_fully.Goals as goal
+
+pub loop-filled-init : goal.loop-filled-init
+loop-filled-init g c = record {
+  told = refl;
+  count = omega arith;
+  bound = omega arith;
+  filling = starts _ c.args.at c.args.buf.now;
+}
+
+pub loop-filled-preserved : goal.loop-filled-preserved
+loop-filled-preserved g c = record {
+  told = c.read_at.ensures.told ∙ c.loop-filled.invariant.told;
+  count = omega (arith, c.loop-filled.invariant.count, c.read_at.ensures.cause.later);
+  bound = fits c.loop-filled.filled c.in_ok-count.count c.loop-filled.buf c.read_at.new.buf _ c.loop-filled.invariant.bound c.in_ok-count.ensures.bound.0;
+  filling =
+      goes_on _ _ c.args.at c.loop-filled.filled c.in_ok-count.count c.loop-filled.buf c.read_at.new.buf _ c.loop-filled.invariant.told
+      c.loop-filled.invariant.bound c.in_ok-count.ensures.bound.0 c.loop-filled.invariant.filling c.in_ok-count.ensures.bytes;
+}
+
+pub returns-clause-bytes : goal.returns-clause-bytes
+returns-clause-bytes g c =
+    ends _ c.args.at c.loop-filled.filled c.loop-filled.buf c.loop-filled.invariant.bound c.loop-filled-test.false c.loop-filled.invariant.filling

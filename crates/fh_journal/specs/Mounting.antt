@@ -1,0 +1,17 @@
+-- How mounting a journal ends.
+use Rattle.std.specs.Prelude.{◌≡◌, ◌≤◌, ◌<◌, ℕ, List, [], ◌∷◌, ◌++◌, length, Option, IfSome, Result, Ok, Err}
+use Rattle.fh_base.specs.Faults.{Rose}
+use Rattle.fh_journal.specs.Journal.{header, StandsFor}
+use Rattle.fh_journal.specs.declared.faults.MountFault.{MountFault}
+use Rattle.fh_journal.specs.declared.faults.MountFault.TheVariants.{Later, DiskFault}
+
+-- the header and a closed gate
+abbrev pub fresh_file : List ℕ
+fresh_file = header ++ 0 ∷ []
+
+-- A file of at most 7 bytes is a journal of no frames, whatever its bytes, and is made anew. A longer one is refused
+-- and left as it is. The disk fails only where its count of faults rose.
+abbrev pub Prepares : Option (List ℕ) → Option (List ℕ) → ℕ → ℕ → Result ℕ MountFault → Type 0
+Prepares was now before after (Ok gate) = IfSome was (λ file. length file ≤ 7) × StandsFor now [] gate
+Prepares was now before after (Err Later) = IfSome was (λ file. 7 < length file) × (now ≡ was)
+Prepares was now before after (Err DiskFault) = Rose before after
