@@ -19,6 +19,6 @@ pub use both::Both;
 pub use fault_plan::{Failing, FaultPlan};
 pub use faults::{Failed, NoMemory};
 pub use queue_name::QueueName;
-pub use sink::{MemorySink, Sink, StreamSink};
-pub use source::{MemorySource, Source, StreamSource};
+pub use sink::{MemorySink, Sink, StreamSink, write_all};
+pub use source::{MemorySource, Source, StreamSource, read_byte};
 pub use status::Status;

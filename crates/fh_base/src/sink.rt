@@ -3,7 +3,7 @@ ghost use Rattle.std.specs.Prelude.{◌≡◌, ℕ, Bool, false, true, ◌≤◌
 ghost use Rattle.std.specs.Io.KnownBytes.{WriteAppends};
 ghost use Rattle.fh_base.specs.Faults.{HasCause, KeepsSure};
 ghost use Rattle.fh_base.specs.FaultPlan.{fails_next, counted};
-ghost use Rattle.fh_base.specs.Streams.{Takes};
+ghost use Rattle.fh_base.specs.Streams.{Takes, WritesAll};
 
 use crate::{Failed, FaultPlan};
 use std::alloc::Global;
@@ -32,6 +32,22 @@ pub trait Sink {
         ensures cause { HasCause (write_faults self.old) (write_faults self.new) result }
         ensures sure { KeepsSure (writes_surely self.old) (writes_surely self.new) result }
         ensures beside { beside_writing self.new ≡ beside_writing self.old };
+}
+
+/// Writes all the bytes, piece by piece. After a failure some at the front are written, but not all.
+pub fn write_all<O: Sink>(sink: &mut O, bytes: &[u8]) -> Result<(), Failed>
+    ensures written { WritesAll (O.written sink.old) (O.written sink.new) result bytes.now }
+    ensures cause { HasCause (O.write_faults sink.old) (O.write_faults sink.new) result }
+    ensures sure { KeepsSure (O.writes_surely sink.old) (O.writes_surely sink.new) result }
+    ensures beside { O.beside_writing sink.new ≡ O.beside_writing sink.old }
+{
+    let mut place = 0;
+    while place < bytes.len() {
+        let (_written, rest) = bytes.split_at(place);
+        let taken = sink.write(rest)?;
+        place += taken;
+    }
+    Ok(())
 }
 
 /// A sink into memory. It tells what it took, and fails at the writes of its plan and where memory is

@@ -1,10 +1,10 @@
 // Where bytes come from.
-ghost use Rattle.std.specs.Prelude.{◌≡◌, ℕ, ◌-◌, ◌≤◌, Bool, true, false, is_err, List, Option, None, Some, length};
+ghost use Rattle.std.specs.Prelude.{◌<◌, IfOk, OnErr, OnSome, ◌≡◌, ℕ, ◌-◌, ◌≤◌, Bool, true, false, is_err, List, Option, None, Some, length};
 ghost use Rattle.std.specs.Io.{ReadsAtMost};
-ghost use Rattle.std.specs.Io.KnownBytes.{ReadConsumes};
+ghost use Rattle.std.specs.Io.KnownBytes.{ReadConsumes, Keeps};
 ghost use Rattle.fh_base.specs.Faults.{HasCause, KeepsSure};
 ghost use Rattle.fh_base.specs.FaultPlan.{fails_next, counted, raised};
-ghost use Rattle.fh_base.specs.Streams.{Lowers};
+ghost use Rattle.fh_base.specs.Streams.{Lowers, ReadsByte};
 
 use crate::{Failed, FaultPlan, NoMemory};
 use std::alloc::Global;
@@ -37,6 +37,23 @@ pub trait Source {
         ensures cause { HasCause (read_faults self.old) (read_faults self.new) result }
         ensures sure { KeepsSure (reads_surely self.old) (reads_surely self.new) result }
         ensures beside { beside_reading self.new ≡ beside_reading self.old };
+}
+
+/// The next byte, or `None` exactly at the end of the bytes.
+pub fn read_byte<S: Source>(source: &mut S) -> Result<Option<u8>, Failed>
+    ensures byte { IfOk result (ReadsByte (S.left source.old) (S.left source.new)) }
+    ensures failed { OnErr result (Keeps (S.left source.old) (S.left source.new)) }
+    ensures most { S.most source.new ≤ S.most source.old }
+    ensures less { IfOk result (λ byte. OnSome byte (S.most source.new < S.most source.old)) }
+    ensures cause { HasCause (S.read_faults source.old) (S.read_faults source.new) result }
+    ensures sure { KeepsSure (S.reads_surely source.old) (S.reads_surely source.new) result }
+    ensures beside { S.beside_reading source.new ≡ S.beside_reading source.old }
+{
+    let mut byte = [0];
+    match source.read(&mut byte)? {
+        0 => Ok(None),
+        _ => Ok(Some(byte[0])),
+    }
 }
 
 /// A source over bytes in memory. It tells what is left, and fails exactly at the reads of its plan.

@@ -1,0 +1,40 @@
+-- The lines of a script, each with the bytes that end it.
+use Rattle.std.specs.Prelude.{◌≡◌, ⊤, ℕ, ◌-◌, ◌<◌, ◌==◌, List, [], ◌∷◌, ◌++◌, length, take, drop, if◌then◌else◌, Bool, true, false, Option, Some, None}
+use Rattle.std.specs.List.{before_first, ends_with}
+use Rattle.std.specs.Prelude.{nat_eq}
+
+abbrev pub is_line_feed : ℕ → Bool
+is_line_feed b = b == 10
+
+-- a byte in front of the first line
+abbrev pub before_lines : ℕ → List (List ℕ) → List (List ℕ)
+before_lines b [] = (b ∷ []) ∷ []
+before_lines b (line ∷ more) = (b ∷ line) ∷ more
+
+-- the lines of these bytes, each with its line feed; a last one without counts where it isn't empty
+abbrev pub lines : List ℕ → List (List ℕ)
+lines [] = []
+lines (b ∷ rest) = if is_line_feed b then (b ∷ []) ∷ lines rest else before_lines b (lines rest)
+
+-- how many bytes stand before the first line feed
+abbrev pub line_length : List ℕ → ℕ
+line_length line = length (before_first is_line_feed line)
+
+-- the line without its line feed, and without one carriage return before that
+abbrev pub line_text : List ℕ → List ℕ
+line_text line =
+  if ends_with nat_eq line (13 ∷ 10 ∷ []) then take (length line - 2) line
+  else if ends_with nat_eq line (10 ∷ []) then take (length line - 1) line
+  else line
+
+-- where a source tells: the first of its lines was read, or there was none
+abbrev pub ReadsLine : Option (List ℕ) → Option (List ℕ) → List ℕ → Bool → Type 0
+ReadsLine None now line found = ⊤
+ReadsLine (Some was) None line found = ⊥
+ReadsLine (Some was) (Some now) line true = lines was ≡ line ∷ lines now
+ReadsLine (Some was) (Some now) line false = (was ≡ []) × (now ≡ [])
+
+-- where a source tells: its first line has more than 140,000 bytes
+abbrev pub StartsLong : Option (List ℕ) → Type 0
+StartsLong None = ⊤
+StartsLong (Some was) = 140000 < line_length was
