@@ -1,2 +1,9 @@
+pub mod Answers
+pub mod Concluding
+pub mod Ends
 pub mod Lines
+pub mod Machine
+pub mod Queues
+pub mod Script
+pub mod Session
 pub mod Words

@@ -1,7 +1,11 @@
 -- The lines of a script, each with the bytes that end it.
-use Rattle.std.specs.Prelude.{◌≡◌, ⊤, ℕ, ◌-◌, ◌<◌, ◌==◌, List, [], ◌∷◌, ◌++◌, length, take, drop, if◌then◌else◌, Bool, true, false, Option, Some, None}
-use Rattle.std.specs.List.{before_first, ends_with}
+use Rattle.std.specs.Prelude.{◌≡◌, ⊤, ℕ, ◌+◌, ◌-◌, ◌<◌, ◌==◌, List, [], ◌∷◌, ◌++◌, length, take, drop, if◌then◌else◌, Bool, true, false, Option, Some, None}
+use Rattle.std.specs.List.{ends_with}
 use Rattle.std.specs.Prelude.{nat_eq}
+use Rattle.std.specs.Io.KnownBytes.{IsAtEnd}
+use Rattle.fh_base.specs.Faults.{Rose}
+use Rattle.fh_script.specs.declared.ends.End.{End}
+use Rattle.fh_script.specs.declared.ends.End.TheVariants.{Finished, Usage, Damaged, ReadFault, DiskFault, WriteFault, LongLine, NoMemory}
 
 abbrev pub is_line_feed : ℕ → Bool
 is_line_feed b = b == 10
@@ -18,7 +22,8 @@ lines (b ∷ rest) = if is_line_feed b then (b ∷ []) ∷ lines rest else befor
 
 -- how many bytes stand before the first line feed
 abbrev pub line_length : List ℕ → ℕ
-line_length line = length (before_first is_line_feed line)
+line_length [] = 0
+line_length (b ∷ rest) = if is_line_feed b then 0 else line_length rest + 1
 
 -- the line without its line feed, and without one carriage return before that
 abbrev pub line_text : List ℕ → List ℕ
@@ -29,7 +34,8 @@ line_text line =
 
 -- where a source tells: the first of its lines was read, or there was none
 abbrev pub ReadsLine : Option (List ℕ) → Option (List ℕ) → List ℕ → Bool → Type 0
-ReadsLine None now line found = ⊤
+ReadsLine None now line true = ⊤
+ReadsLine None now line false = IsAtEnd now
 ReadsLine (Some was) None line found = ⊥
 ReadsLine (Some was) (Some now) line true = lines was ≡ line ∷ lines now
 ReadsLine (Some was) (Some now) line false = (was ≡ []) × (now ≡ [])
@@ -38,3 +44,14 @@ ReadsLine (Some was) (Some now) line false = (was ≡ []) × (now ≡ [])
 abbrev pub StartsLong : Option (List ℕ) → Type 0
 StartsLong None = ⊤
 StartsLong (Some was) = 140000 < line_length was
+
+-- why no line was read: the source failed and counted it, the line is too long, or memory was refused
+abbrev pub HasLineReason : Option (List ℕ) → ℕ → ℕ → End → Type 0
+HasLineReason was before after ReadFault = Rose before after
+HasLineReason was before after LongLine = StartsLong was
+HasLineReason was before after NoMemory = Unit {0}
+HasLineReason was before after Finished = ⊥
+HasLineReason was before after Usage = ⊥
+HasLineReason was before after Damaged = ⊥
+HasLineReason was before after DiskFault = ⊥
+HasLineReason was before after WriteFault = ⊥

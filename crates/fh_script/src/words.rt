@@ -1,14 +1,21 @@
 // The words of a line.
 ghost use Rattle.std.specs.Prelude.{◌≡◌, map, IfOk};
-ghost use Rattle.fh_script.specs.Words.{words};
+ghost use Rattle.fh_script.specs.Words.{words, is_text_word};
 
 use std::alloc::{AllocError, Global};
 
-/// The words between runs of spaces.
-pub fn words_of<'a>(alloc: Global, line: &'a [u8]) -> Result<Vec<&'a [u8]>, AllocError>
-    ensures { IfOk result (λ found. map (λ word. word.now) found.items ≡ words line.entry.now) }
+/// What stands between runs of spaces.
+pub fn words_of<'a>(alloc: Global, text: &'a str) -> Result<Vec<&'a str>, AllocError>
+    ensures { IfOk result (λ found. map (λ word. word.now) found.items ≡ words text.entry.now) }
 {
-    line.split(|byte| *byte == b' ')
-        .filter(|word| !word.is_empty())
-        .collect(alloc)
+    text.split(' ').filter(|word| !word.is_empty()).collect(alloc)
+}
+
+/// Whether a word stands for a text or a name: printable ASCII without a percent sign.
+pub fn is_text_word(word: &str) -> bool
+    ensures { result ≡ is_text_word word.now }
+{
+    word.as_bytes()
+        .iter()
+        .all(|b| 33 <= *b && *b <= 126 && *b != b'%')
 }

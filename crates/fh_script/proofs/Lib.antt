@@ -1,0 +1,4 @@
+pub mod LineReading
+pub mod Recording
+pub mod Turns
+pub mod Turning

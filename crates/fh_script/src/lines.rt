@@ -1,0 +1,57 @@
+// The lines of a source.
+ghost use Rattle.std.specs.Prelude.{◌≡◌, ◌<◌, ◌≤◌, true, IfOk, IfErr, OnOk, length};
+ghost use Rattle.fh_base.specs.Faults.{Rose};
+ghost use Rattle.fh_script.specs.Lines.{ReadsLine, HasLineReason, line_length, line_text};
+
+use crate::End;
+use fh_base::{Source, read_byte};
+
+const LINE_FEED: u8 = b'\n';
+
+/// The most bytes of a line before its line feed.
+const MOST: usize = 140_000;
+
+/// Reads the next line into the buffer, with its line feed, and says whether there was one. A last line
+/// without a line feed counts where it isn't empty.
+pub fn read_line<S: Source>(source: &mut S, line: &mut Vec<u8>) -> Result<bool, End>
+    ensures found { IfOk result (ReadsLine (S.left source.old) (S.left source.new) line.new.items) }
+    ensures short { OnOk result (line_length line.new.items ≤ 140000) }
+    ensures stored { OnOk result (length line.new.items ≤ 140001) }
+    ensures reason { IfErr result (HasLineReason (S.left source.old) (S.read_faults source.old) (S.read_faults source.new)) }
+    ensures less { IfOk result (λ found. found ≡ true → S.most source.new < S.most source.old) }
+    ensures count { S.read_faults source.old ≤ S.read_faults source.new }
+{
+    line.clear();
+    loop {
+        let byte = match read_byte(source) {
+            Ok(byte) => byte,
+            Err(_) => return Err(End::ReadFault),
+        };
+        let Some(byte) = byte else {
+            if line.is_empty() {
+                return Ok(false);
+            }
+            return Ok(true);
+        };
+        line.push(byte)?;
+        if byte == LINE_FEED {
+            return Ok(true);
+        }
+        if line.len() > MOST {
+            return Err(End::LongLine);
+        }
+    }
+}
+
+/// The line without its line feed, and without one carriage return before that.
+pub fn line_text(line: &[u8]) -> &[u8]
+    ensures { result.now ≡ line_text line.entry.now }
+{
+    if line.ends_with(b"\r\n") {
+        return line.split_at(line.len() - 2).0;
+    }
+    if line.ends_with(b"\n") {
+        return line.split_at(line.len() - 1).0;
+    }
+    line
+}

@@ -1,0 +1,103 @@
+// The top call of the script.
+ghost use Rattle.std.specs.Prelude.{◌≡◌, ◌≢◌, ◌≤◌, ◌==◌, [], true, false, not, length, take, ℕ, IfErr, OnOk, List};
+ghost use Rattle.std.specs.Io.KnownBytes.{Appends};
+ghost use Rattle.fh_base.specs.Faults.{Rose};
+ghost use Rattle.fh_script.specs.Ends.{code_of, last_line};
+ghost use Rattle.fh_script.specs.Machine.{world};
+ghost use Rattle.fh_script.specs.Script.{is_script, HasReason, EndsBy, Outside};
+ghost use Rattle.fh_script.specs.Concluding.{Concludes};
+
+use crate::End;
+use crate::lines::read_line;
+use crate::session::Session;
+use fh_base::{Sink, Source, Status, write_all};
+use fh_disk::Disk;
+use fh_journal::{Journal, MountFault, prepare};
+use std::alloc::Global;
+
+/// Answers the lines of the source in order over the journal, and writes each answer before the next
+/// line is read. The words are those of the command line, the name of the command first. The status is
+/// 0 where the source was read to its end; docs/commands.md has the others, each with its last line.
+/// The checkpoint isn't used yet.
+pub fn script<S: Source, O: Sink, J: Disk, K: Disk>(
+    alloc: Global,
+    words: &[String],
+    source: &mut S,
+    sink: &mut O,
+    journal: &mut J,
+    _checkpoint: &mut K,
+) -> Status
+    ensures usage { (result.code == 2) ≡ not (is_script words.now) }
+    ensures ends { EndsBy
+        (record { left = S.left source.old; read_faults = S.read_faults source.old; written = O.written sink.old; write_faults = O.write_faults sink.old; told = J.told journal.old; disk_faults = J.disk_faults journal.old })
+        (record { left = S.left source.new; read_faults = S.read_faults source.new; written = O.written sink.new; write_faults = O.write_faults sink.new; told = J.told journal.new; disk_faults = J.disk_faults journal.new })
+        result.code }
+    ensures unasked { result.code ≡ 2 → (source.new ≡ source.old) × (journal.new ≡ journal.old) }
+    ensures unread { result.code ≡ 4 → source.new ≡ source.old }
+    ensures checkpoint { _checkpoint.new ≡ _checkpoint.old }
+{
+    if !is_script(words) {
+        return conclude(sink, End::Usage);
+    }
+    let end = run(alloc, source, sink, journal);
+    conclude(sink, end)
+}
+
+fn is_script(words: &[String]) -> bool
+    ensures { result ≡ is_script words.now }
+{
+    match words {
+        [verb, _journal, _checkpoint] => verb.as_str() == "script",
+        _ => false,
+    }
+}
+
+// Writes the last line of an end.
+fn conclude<O: Sink>(sink: &mut O, end: End) -> Status
+    ensures status { result.code ≡ code_of end }
+    ensures written { Concludes (O.written sink.old) (O.written sink.new) (last_line end) (O.write_faults sink.old) (O.write_faults sink.new) }
+    ensures count { O.write_faults sink.old ≤ O.write_faults sink.new }
+{
+    // The status stays where its line can't be written.
+    let _written = write_all(sink, end.last_line().as_bytes());
+    Status { code: end.code() }
+}
+
+// Mounts the journal, and answers the lines.
+fn run<S: Source, O: Sink, J: Disk>(
+    alloc: Global,
+    source: &mut S,
+    sink: &mut O,
+    journal: &mut J,
+) -> End
+    ensures reason { HasReason
+        (record { left = S.left source.old; read_faults = S.read_faults source.old; written = O.written sink.old; write_faults = O.write_faults sink.old; told = J.told journal.old; disk_faults = J.disk_faults journal.old })
+        (record { left = S.left source.new; read_faults = S.read_faults source.new; written = O.written sink.new; write_faults = O.write_faults sink.new; told = J.told journal.new; disk_faults = J.disk_faults journal.new })
+        [] result }
+    ensures unread { result ≡ End.Damaged → source.new ≡ source.old }
+    ensures asked { result ≢ End.Usage }
+    ensures count { O.write_faults sink.old ≤ O.write_faults sink.new }
+{
+    let gate = match prepare(journal) {
+        Ok(gate) => gate,
+        Err(MountFault::Later) => return End::Damaged,
+        Err(MountFault::DiskFault) => return End::DiskFault,
+    };
+    let mut session = Session::new(alloc, Journal::over(journal, gate));
+    let mut line = Vec::new(alloc);
+    loop {
+        match read_line(source, &mut line) {
+            Ok(true) => {}
+            Ok(false) => return End::Finished,
+            Err(end) => return end,
+        }
+        let text = match session.answer(alloc, &line) {
+            Ok(text) => text,
+            Err(end) => return end,
+        };
+        match write_all(sink, text.as_bytes()) {
+            Ok(()) => {}
+            Err(_) => return End::WriteFault,
+        }
+    }
+}
