@@ -1,2 +1,5 @@
 pub mod Disk
 pub mod Moments
+pub mod Recorded
+pub mod RecordedLaws
+pub mod Torn

@@ -6,5 +6,7 @@
 #![tactic(auto)]
 
 mod disk;
+mod record;
 
 pub use disk::Disk;
+pub use record::{Call, Piece};
