@@ -1,5 +1,7 @@
 pub mod Disk
+pub mod MemoryDisks
 pub mod Moments
 pub mod Recorded
 pub mod RecordedLaws
 pub mod Torn
+pub mod Written

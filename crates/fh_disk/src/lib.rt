@@ -5,8 +5,11 @@
 //! where the disk's count of faults rose in it.
 #![tactic(auto)]
 
+mod content;
 mod disk;
+mod memory_disk;
 mod record;
 
 pub use disk::Disk;
+pub use memory_disk::MemoryDisk;
 pub use record::{Call, Piece};

@@ -1,0 +1,123 @@
+// A disk in memory, which tears at will.
+ghost use Rattle.std.specs.Prelude.{◌≡◌, ◌+◌, ◌≤◌, None, Some, length, true, is_err, IsOk, IfOk, OnOk, OnErr};
+ghost use Rattle.std.specs.Io.{ReadsAtMost};
+ghost use Rattle.std.specs.Option.{option_map};
+ghost use Rattle.fh_base.specs.Faults.{HasCause};
+ghost use Rattle.fh_base.specs.FaultPlan.{fails_next, counted, raised};
+ghost use Rattle.fh_disk.specs.Disk.{written_at, Only};
+ghost use Rattle.fh_disk.specs.Recorded.{added, told_by, left_by, moment_of, left_since_by};
+ghost use Rattle.fh_disk.specs.RecordedLaws.{reads_as_image_by, counts_now_by, only_now_by};
+ghost use Rattle.fh_disk.specs.Written.{Gives};
+ghost use Rattle.fh_disk.specs.declared.record.Call.TheVariants.{Write, Sync};
+
+use crate::Disk;
+use crate::content::{lengthen, overwrite, read_from};
+use crate::record::{Call, Record};
+use fh_base::{Failed, FaultPlan, NoMemory};
+use std::alloc::{AllocError, Global};
+
+/// A file in memory. Its calls fail exactly where its plan says, counted from 1 among all calls on it,
+/// and where a write or a sync is refused memory; both count a fault. A call that fails leaves the bytes
+/// and the images as they were.
+///
+/// A recording disk keeps what it held at first and each write and sync since, so it tells its bytes,
+/// the images of a crash, and those of each moment since it was made. A write that no sync has followed
+/// may be torn in its images. A plain disk keeps no record and tells nothing; it takes memory only where
+/// a write makes the file longer.
+#[derive(Drop)]
+pub struct MemoryDisk {
+    bytes: Vec<u8>,
+    past: Option<Record>,
+    pub plan: FaultPlan,
+    reads: u64,
+    ghost kept: { Gives past bytes.items },
+}
+
+impl MemoryDisk {
+    ghost use Rattle.fh_disk.specs.MemoryDisks.{bytes_of, past_of};
+
+    /// A disk with these bytes, all of them synced, that keeps a record of its calls.
+    pub fn recording(alloc: Global, bytes: Vec<u8>, plan: FaultPlan) -> Result<MemoryDisk, NoMemory>
+        ensures bytes { IfOk result (λ disk. bytes_of disk ≡ bytes.items) }
+        ensures told { IfOk result (λ disk. told_by (past_of disk) ≡ Some bytes.items) }
+        ensures synced { IfOk result (λ disk. Only bytes.items (left_by (past_of disk))) }
+        ensures plan { IfOk result (λ disk. disk.plan ≡ plan) }
+    {
+        let past = Record::begin(alloc, &bytes)?;
+        Ok(MemoryDisk {
+            bytes,
+            past: Some(past),
+            plan,
+            reads: 0,
+        })
+    }
+
+    /// A disk with these bytes that keeps no record.
+    pub fn plain(bytes: Vec<u8>, plan: FaultPlan) -> MemoryDisk
+        ensures bytes { bytes_of result ≡ bytes.items }
+        ensures untold { past_of result ≡ None }
+        ensures plan { result.plan ≡ plan }
+    {
+        MemoryDisk {
+            bytes,
+            past: None,
+            plan,
+            reads: 0,
+        }
+    }
+
+    /// What reads give.
+    pub fn bytes(&self) -> &[u8]
+        ensures { result.now ≡ bytes_of self.now }
+    {
+        &self.bytes
+    }
+}
+
+fn store(
+    file: &mut Vec<u8>,
+    past: &mut Option<Record>,
+    at: u64,
+    bytes: &[u8],
+) -> Result<(), AllocError>
+    ensures written { OnOk result (file.new.items ≡ written_at at bytes.now file.old.items) }
+    ensures noted { OnOk result (past.new ≡ option_map (added (Write at bytes.now)) past.old) }
+    ensures same_file { OnErr result (file.new.items ≡ file.old.items) }
+    ensures same_past { OnErr result (past.new ≡ past.old) }
+    ensures surely { past.old ≡ None → at + length bytes.now ≤ length file.old.items → IsOk result }
+{
+    let start = at as usize;
+    let Some(end) = start.checked_add(bytes.len()) else {
+        return Err(AllocError);
+    };
+    let length = file.len();
+    lengthen(file, end)?;
+    if note_write(past, at, bytes).is_err() {
+        file.truncate(length);
+        return Err(AllocError);
+    }
+    overwrite(file, start, bytes);
+    Ok(())
+}
+
+fn note_write(past: &mut Option<Record>, at: u64, bytes: &[u8]) -> Result<(), AllocError>
+    ensures ok { OnOk result (past.new ≡ option_map (added (Write at bytes.now)) past.old) }
+    ensures err { OnErr result (past.new ≡ past.old) }
+    ensures surely { past.old ≡ None → IsOk result }
+{
+    match past {
+        None => Ok(()),
+        Some(record) => record.add_write(at, bytes),
+    }
+}
+
+fn note_sync(past: &mut Option<Record>) -> Result<(), AllocError>
+    ensures ok { OnOk result (past.new ≡ option_map (added Sync) past.old) }
+    ensures err { OnErr result (past.new ≡ past.old) }
+    ensures surely { past.old ≡ None → IsOk result }
+{
+    match past {
+        None => Ok(()),
+        Some(record) => record.add_sync(),
+    }
+}
