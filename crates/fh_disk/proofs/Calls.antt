@@ -1,5 +1,5 @@
 -- What one call more changes of a disk that keeps a record of its calls, or none.
-use Rattle.std.proofs.Common.{◌≡◌, ◌⊎◌, inl, inr, ⊎_elim, ℕ, ◌+◌, ◌<◌, ◌≤◌, List, [], ◌∷◌, ◌++◌, length, take, Option, Some, None, refl, sym, ◌∙◌, ap, subst, arith, length-append}
+use Rattle.std.proofs.Common.{◌≡◌, ◌⊎◌, inl, inr, ⊎_elim, ℕ, ◌+◌, ◌<◌, ◌≤◌, List, [], ◌∷◌, ◌++◌, length, take, Option, Some, None, Result, Ok, Err, OnOk, OnErr, refl, sym, ◌∙◌, ap, subst, arith, length-append}
 use Rattle.std.specs.Option.{option_map}
 use Rattle.std.proofs.lemmas.List.{take_all, take-append-le}
 use Rattle.std.proofs.lemmas.Bool.{cases_lt}
@@ -8,8 +8,9 @@ use Rattle.fh_disk.specs.Moments.{Elapses}
 use Rattle.fh_disk.specs.declared.record.Call.{Call}
 use Rattle.fh_disk.specs.declared.record.Call.TheVariants.{Write, Sync}
 use Rattle.fh_disk.specs.Recorded.{Recorded, added, replayed, Leaves, LeavesAfter, told_by, left_by, moment_of, left_since_by}
-use Rattle.fh_disk.specs.RecordedLaws.{leaves_replayed}
+use Rattle.fh_disk.specs.RecordedLaws.{leaves_replayed, some_same}
 use Rattle.fh_disk.specs.Torn.{torn_same}
+use Rattle.fh_disk.specs.Written.{Gives}
 
 pub replayed-push : (file : List ℕ) (calls : List Call) (call : Call) → replayed file (calls ++ call ∷ []) ≡ replayed (replayed file calls) (call ∷ [])
 replayed-push file [] call = refl
@@ -121,3 +122,25 @@ no_new_image None c left = tt
 no_new_image (Some r) c left =
     let is = leaves_sync r.first (λ new. new ≡ r.first) r.calls c (all_calls (added Sync r) c left) in
     calls_all r c (subst (Now r r.calls) (sym is) (leaves_replayed r.first (λ new. new ≡ r.first) r.calls refl))
+
+-- the record goes on giving the bytes
+pub gives_written : (r : Option Recorded) (at : ℕ) (bytes file : List ℕ) → Gives r file → Gives (option_map (added (Write at bytes)) r) (written_at at bytes file)
+gives_written None at bytes file gives = refl
+gives_written (Some r) at bytes file gives =
+    ap (λ (l : List ℕ). Some l) (replayed-push r.first r.calls (Write at bytes) ∙ ap (written_at at bytes) (some_same (replayed r.first r.calls) file gives))
+
+pub gives_synced : (r : Option Recorded) (file : List ℕ) → Gives r file → Gives (option_map (added Sync) r) file
+gives_synced None file gives = refl
+gives_synced (Some r) file gives = ap (λ (l : List ℕ). Some l) (replayed-push r.first r.calls Sync) ∙ gives
+
+-- and so it does whether memory was refused or not
+pub gives_after_write : {T E : Type 0} (result : Result T E) (old new : Option Recorded) (at : ℕ) (bytes file after : List ℕ)
+    → OnOk result (new ≡ option_map (added (Write at bytes)) old) → OnOk result (after ≡ written_at at bytes file) → OnErr result (new ≡ old) → OnErr result (after ≡ file)
+    → Gives old file → Gives new after
+gives_after_write (Ok x) old new at bytes file after noted written same_past same_file gives = rw (noted, written) (gives_written old at bytes file gives)
+gives_after_write (Err e) old new at bytes file after noted written same_past same_file gives = rw (same_past, same_file) gives
+
+pub gives_after_sync : {T E : Type 0} (result : Result T E) (old new : Option Recorded) (file : List ℕ)
+    → OnOk result (new ≡ option_map (added Sync) old) → OnErr result (new ≡ old) → Gives old file → Gives new file
+gives_after_sync (Ok x) old new file noted same gives = rw noted (gives_synced old file gives)
+gives_after_sync (Err e) old new file noted same gives = rw same gives

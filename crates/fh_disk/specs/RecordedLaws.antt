@@ -15,7 +15,7 @@ leaves_replayed file images (Write at bytes ∷ later) here =
     leaves_replayed (written_at at bytes file) (λ new. (old : List ℕ) × images old × Torn at (length bytes) old new) later (file, here, torn_written at bytes file)
 leaves_replayed file images (Sync ∷ later) here = leaves_replayed file (λ new. new ≡ file) later refl
 
-some_same : (xs ys : List ℕ) → Some xs ≡ Some ys → xs ≡ ys
+pub some_same : (xs ys : List ℕ) → Some xs ≡ Some ys → xs ≡ ys
 some_same xs ys same = cc
 
 pub reads_as_image_by : (r : Option Recorded) (file : List ℕ) → told_by r ≡ Some file → left_by r file

@@ -4,7 +4,8 @@ ghost use Rattle.std.specs.Io.{ReadsAtMost};
 ghost use Rattle.std.specs.Option.{option_map};
 ghost use Rattle.fh_base.specs.Faults.{HasCause};
 ghost use Rattle.fh_base.specs.FaultPlan.{fails_next, counted, raised};
-ghost use Rattle.fh_disk.specs.Disk.{written_at, Only};
+ghost use Rattle.fh_disk.specs.Disk.{written_at, ReadsAt, Torn, TornTold, Follows, NoNewImage, OnlyTold, Only};
+ghost use Rattle.fh_disk.specs.Moments.{Elapses};
 ghost use Rattle.fh_disk.specs.Recorded.{added, told_by, left_by, moment_of, left_since_by};
 ghost use Rattle.fh_disk.specs.RecordedLaws.{reads_as_image_by, counts_now_by, only_now_by};
 ghost use Rattle.fh_disk.specs.Written.{Gives};
@@ -71,6 +72,106 @@ impl MemoryDisk {
         ensures { result.now ≡ bytes_of self.now }
     {
         &self.bytes
+    }
+
+    fn refused(&mut self) -> Failed
+        ensures { self.new ≡ record self.old { plan = record self.old.plan { faults = raised self.old.plan.faults } } }
+    {
+        self.plan.fail();
+        Failed
+    }
+}
+
+impl Disk for MemoryDisk {
+    ghost use Rattle.fh_disk.specs.MemoryDisks.{bytes_of, past_of};
+
+    ghost told = { λ d. told_by d.past };
+
+    ghost may_leave = { λ d. left_by d.past };
+
+    ghost moment = { λ d. moment_of d.past };
+
+    ghost left_since = { λ d. left_since_by d.past };
+
+    ghost disk_faults = { λ d. d.plan.faults };
+
+    ghost reads_as_image = { λ d. reads_as_image_by d.past };
+
+    ghost counts_now = { λ d. counts_now_by d.past };
+
+    ghost only_now = { λ d. only_now_by d.past };
+
+    fn length(&mut self) -> Result<u64, Failed>
+        ensures bytes { IfOk result (λ n. n ≡ length (bytes_of self.old)) }
+        ensures fails { is_err result ≡ fails_next self.old.plan }
+        ensures plan { self.new.plan ≡ counted self.old.plan }
+        ensures file { bytes_of self.new ≡ bytes_of self.old }
+        ensures past { past_of self.new ≡ past_of self.old }
+    {
+        if self.plan.fails_now() {
+            return Err(Failed);
+        }
+        Ok(self.bytes.len() as u64)
+    }
+
+    fn read_at(&mut self, at: u64, buf: &mut [u8]) -> Result<usize, Failed>
+        ensures bound { ReadsAtMost result buf.new }
+        ensures bytes { IfOk result (λ n. ReadsAt (bytes_of self.old) at buf.new n) }
+        ensures fails { is_err result ≡ fails_next self.old.plan }
+        ensures plan { self.new.plan ≡ counted self.old.plan }
+        ensures file { bytes_of self.new ≡ bytes_of self.old }
+        ensures past { past_of self.new ≡ past_of self.old }
+    {
+        if self.plan.fails_now() {
+            return Err(Failed);
+        }
+        self.reads = self.reads.saturating_add(1);
+        Ok(read_from(&self.bytes, at, buf))
+    }
+
+    fn write_at(&mut self, at: u64, bytes: &[u8]) -> Result<(), Failed>
+        ensures written { OnOk result (told_by (past_of self.new) ≡ option_map (written_at at bytes.now) (told_by (past_of self.old))) }
+        ensures torn { OnErr result (TornTold at (length bytes.now) (told_by (past_of self.old)) (told_by (past_of self.new))) }
+        ensures images { Follows (Torn at (length bytes.now)) (left_by (past_of self.old)) (left_by (past_of self.new)) }
+        ensures time { Elapses (moment_of (past_of self.old)) (moment_of (past_of self.new)) (left_since_by (past_of self.old)) (left_since_by (past_of self.new)) (left_by (past_of self.new)) }
+        ensures file { OnOk result (bytes_of self.new ≡ written_at at bytes.now (bytes_of self.old)) }
+        ensures past { OnOk result (past_of self.new ≡ option_map (added (Write at bytes.now)) (past_of self.old)) }
+        ensures same_file { OnErr result (bytes_of self.new ≡ bytes_of self.old) }
+        ensures same_past { OnErr result (past_of self.new ≡ past_of self.old) }
+        ensures fails { fails_next self.old.plan ≡ true → is_err result ≡ true }
+        ensures surely { past_of self.old ≡ None → at + length bytes.now ≤ length (bytes_of self.old) → is_err result ≡ fails_next self.old.plan }
+        ensures plan { OnOk result (self.new.plan ≡ counted self.old.plan) }
+        ensures cause { HasCause self.old.plan.faults self.new.plan.faults result }
+    {
+        if self.plan.fails_now() {
+            return Err(Failed);
+        }
+        match store(&mut self.bytes, &mut self.past, at, bytes) {
+            Ok(()) => Ok(()),
+            Err(_) => Err(self.refused()),
+        }
+    }
+
+    fn sync(&mut self) -> Result<(), Failed>
+        ensures durable { OnOk result (OnlyTold (told_by (past_of self.new)) (left_by (past_of self.new))) }
+        ensures told { told_by (past_of self.new) ≡ told_by (past_of self.old) }
+        ensures images { NoNewImage (left_by (past_of self.old)) (left_by (past_of self.new)) }
+        ensures time { Elapses (moment_of (past_of self.old)) (moment_of (past_of self.new)) (left_since_by (past_of self.old)) (left_since_by (past_of self.new)) (left_by (past_of self.new)) }
+        ensures past { OnOk result (past_of self.new ≡ option_map (added Sync) (past_of self.old)) }
+        ensures same_past { OnErr result (past_of self.new ≡ past_of self.old) }
+        ensures file { bytes_of self.new ≡ bytes_of self.old }
+        ensures fails { fails_next self.old.plan ≡ true → is_err result ≡ true }
+        ensures surely { past_of self.old ≡ None → is_err result ≡ fails_next self.old.plan }
+        ensures plan { OnOk result (self.new.plan ≡ counted self.old.plan) }
+        ensures cause { HasCause self.old.plan.faults self.new.plan.faults result }
+    {
+        if self.plan.fails_now() {
+            return Err(Failed);
+        }
+        match note_sync(&mut self.past) {
+            Ok(()) => Ok(()),
+            Err(_) => Err(self.refused()),
+        }
     }
 }
 
