@@ -144,3 +144,10 @@ pub gives_after_sync : {T E : Type 0} (result : Result T E) (old new : Option Re
     → OnOk result (new ≡ option_map (added Sync) old) → OnErr result (new ≡ old) → Gives old file → Gives new file
 gives_after_sync (Ok x) old new file noted same gives = rw noted (gives_synced old file gives)
 gives_after_sync (Err e) old new file noted same gives = rw same gives
+
+-- an image before a call leads to those after it
+pub image_goes_on : (file : List ℕ) (images : List ℕ → Type 0) (calls : List Call) (call : Call) (d c : List ℕ)
+    → Leaves file images calls d → Leaves (replayed file calls) (λ new. new ≡ d) (call ∷ []) c → Leaves file images (calls ++ call ∷ []) c
+image_goes_on file images calls (Write at bytes) d c left step =
+    torn_leaves file images calls at bytes d c left (subst (λ (old : List ℕ). Torn at (length bytes) old c) step.1 step.2)
+image_goes_on file images calls Sync d c left step = sync_leaves file images calls c step

@@ -1,5 +1,8 @@
 -- What a disk in memory holds.
-use Rattle.std.specs.Prelude.{ℕ, List, Option}
+use Rattle.std.specs.Prelude.{ℕ, ◌+◌, ◌-◌, ◌^◌, min, List, [], Option, Some, None}
+use Rattle.fh_base.specs.declared.fault_plan.Failing.TheVariants.{After}
+use Rattle.fh_base.specs.declared.fault_plan.FaultPlan.{FaultPlan}
+use Rattle.fh_disk.specs.declared.record.Call.{Call}
 use Rattle.fh_disk.specs.Recorded.{Recorded}
 use Rattle.fh_disk.specs.declared.memory_disk.MemoryDisk.{MemoryDisk}
 
@@ -10,3 +13,11 @@ bytes_of disk = disk.bytes.items
 -- the record that it keeps, or none
 abbrev pub past_of : MemoryDisk → Option Recorded
 past_of disk = disk.past
+
+abbrev pub calls_of : Option Recorded → List Call
+calls_of None = []
+calls_of (Some r) = r.calls
+
+-- so many calls more pass, and every later one fails
+abbrev pub stopped : ℕ → FaultPlan → FaultPlan
+stopped passed plan = record plan { failing = After (min (plan.calls + passed) (2 ^ 64 - 1)) }

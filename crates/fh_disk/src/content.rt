@@ -1,6 +1,6 @@
 // The bytes of a file in memory: reading and writing at a place.
 ghost use Rattle.std.specs.Prelude.{◌≡◌, ◌+◌, ◌-◌, ◌≤◌, ◌++◌, length, take, drop, replicate, IsOk, OnOk, OnErr};
-ghost use Rattle.fh_disk.specs.Disk.{ReadsAt};
+ghost use Rattle.fh_disk.specs.Disk.{ReadsAt, written_at};
 
 use std::alloc::AllocError;
 
@@ -35,4 +35,17 @@ pub(crate) fn overwrite(file: &mut Vec<u8>, at: usize, bytes: &[u8])
 {
     let end = at + bytes.len();
     file[at..end].copy_from_slice(bytes);
+}
+
+/// Writes bytes at a place, behind bytes of value 0 where it is past the end of the file.
+pub(crate) fn put(file: &mut Vec<u8>, at: u64, bytes: &[u8]) -> Result<(), AllocError>
+    ensures { OnOk result (file.new.items ≡ written_at at bytes.now file.old.items) }
+{
+    let start = at as usize;
+    let Some(end) = start.checked_add(bytes.len()) else {
+        return Err(AllocError);
+    };
+    lengthen(file, end)?;
+    overwrite(file, start, bytes);
+    Ok(())
 }

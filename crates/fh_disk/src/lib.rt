@@ -7,6 +7,8 @@
 
 mod content;
 mod disk;
+mod draw;
+mod image;
 mod memory_disk;
 mod record;
 

@@ -13,8 +13,9 @@ ghost use Rattle.fh_disk.specs.declared.record.Call.TheVariants.{Write, Sync};
 
 use crate::Disk;
 use crate::content::{lengthen, overwrite, read_from};
+use crate::image::image_of;
 use crate::record::{Call, Record};
-use fh_base::{Failed, FaultPlan, NoMemory};
+use fh_base::{Failed, Failing, FaultPlan, NoMemory};
 use std::alloc::{AllocError, Global};
 
 /// A file in memory. Its calls fail exactly where its plan says, counted from 1 among all calls on it,
@@ -35,7 +36,7 @@ pub struct MemoryDisk {
 }
 
 impl MemoryDisk {
-    ghost use Rattle.fh_disk.specs.MemoryDisks.{bytes_of, past_of};
+    ghost use Rattle.fh_disk.specs.MemoryDisks.{bytes_of, past_of, calls_of, stopped};
 
     /// A disk with these bytes, all of them synced, that keeps a record of its calls.
     pub fn recording(alloc: Global, bytes: Vec<u8>, plan: FaultPlan) -> Result<MemoryDisk, NoMemory>
@@ -72,6 +73,44 @@ impl MemoryDisk {
         ensures { result.now ≡ bytes_of self.now }
     {
         &self.bytes
+    }
+
+    /// How many reads have passed.
+    pub fn reads(&self) -> u64 {
+        self.reads
+    }
+
+    /// The writes and syncs that passed since the disk was made, in order. A plain disk has none.
+    pub fn calls(&self) -> &[Call]
+        ensures { result.now ≡ calls_of (past_of self.now) }
+    {
+        match &self.past {
+            Some(past) => past.calls(),
+            None => &[],
+        }
+    }
+
+    /// So many calls pass from now on, and every later one fails.
+    pub fn stop_after(&mut self, passed: u64)
+        ensures plan { self.new.plan ≡ stopped passed self.old.plan }
+        ensures file { bytes_of self.new ≡ bytes_of self.old }
+        ensures past { past_of self.new ≡ past_of self.old }
+    {
+        let passed = self.plan.calls.saturating_add(passed);
+        self.plan.failing = Failing::After { passed };
+    }
+
+    /// One of the files that a crash may leave, by a number. By 0 the writes since the last sync are
+    /// lost, and by 1 they are whole; by any other number each has a fate of its own, and bytes in its
+    /// range and past the old end may be any. A plain disk gives its bytes.
+    pub fn image(&self, alloc: Global, choice: u64) -> Result<Vec<u8>, NoMemory>
+        ensures left { IfOk result (λ image. left_by (past_of self.now) image.items) }
+        ensures plain { past_of self.now ≡ None → IfOk result (λ image. image.items ≡ bytes_of self.now) }
+    {
+        match &self.past {
+            Some(past) => Ok(image_of(alloc, past.first(), past.calls(), choice)?),
+            None => Ok(Vec::from_slice(alloc, &self.bytes)?),
+        }
     }
 
     fn refused(&mut self) -> Failed
