@@ -8,10 +8,12 @@
 mod content;
 mod disk;
 mod draw;
+mod file_disk;
 mod image;
 mod memory_disk;
 mod record;
 
 pub use disk::Disk;
+pub use file_disk::FileDisk;
 pub use memory_disk::MemoryDisk;
 pub use record::{Call, Piece};
