@@ -80,14 +80,7 @@ fn tear_to_pieces(
 }
 
 // Draws each byte of a range from what was there, what the write brought, and any other.
-fn scatter(
-    image: &mut [u8],
-    from: usize,
-    to: usize,
-    start: usize,
-    bytes: &[u8],
-    draw: &mut Draw,
-)
+fn scatter(image: &mut [u8], from: usize, to: usize, start: usize, bytes: &[u8], draw: &mut Draw)
     ensures before { (i : ℕ) → i < from → slice_index image.new i ≡ slice_index image.old i }
     ensures behind { (i : ℕ) → to ≤ i → slice_index image.new i ≡ slice_index image.old i }
 {

@@ -17,3 +17,6 @@ pub use disk::Disk;
 pub use file_disk::FileDisk;
 pub use memory_disk::MemoryDisk;
 pub use record::{Call, Piece};
+
+#[cfg(test)]
+mod tests;
