@@ -1,5 +1,5 @@
 // A disk in memory, which tears at will.
-ghost use Rattle.std.specs.Prelude.{◌≡◌, ◌+◌, ◌≤◌, None, Some, length, true, is_err, IsOk, IfOk, OnOk, OnErr};
+ghost use Rattle.std.specs.Prelude.{◌≡◌, ◌+◌, ◌≤◌, None, Some, length, true, is_err, is_ok, IsOk, IfOk, OnOk, OnErr};
 ghost use Rattle.std.specs.Io.{ReadsAtMost};
 ghost use Rattle.std.specs.Option.{option_map};
 ghost use Rattle.fh_base.specs.Faults.{HasCause};
@@ -44,6 +44,7 @@ impl MemoryDisk {
         ensures told { IfOk result (λ disk. told_by (past_of disk) ≡ Some bytes.items) }
         ensures synced { IfOk result (λ disk. Only bytes.items (left_by (past_of disk))) }
         ensures plan { IfOk result (λ disk. disk.plan ≡ plan) }
+        ensures reads { IfOk result (λ disk. disk.reads ≡ 0) }
     {
         let past = Record::begin(alloc, &bytes)?;
         Ok(MemoryDisk {
@@ -59,6 +60,7 @@ impl MemoryDisk {
         ensures bytes { bytes_of result ≡ bytes.items }
         ensures untold { past_of result ≡ None }
         ensures plan { result.plan ≡ plan }
+        ensures reads { result.reads ≡ 0 }
     {
         MemoryDisk {
             bytes,
@@ -76,7 +78,9 @@ impl MemoryDisk {
     }
 
     /// How many reads have passed.
-    pub fn reads(&self) -> u64 {
+    pub fn reads(&self) -> u64
+        ensures { result ≡ self.now.reads }
+    {
         self.reads
     }
 
@@ -92,9 +96,7 @@ impl MemoryDisk {
 
     /// So many calls pass from now on, and every later one fails.
     pub fn stop_after(&mut self, passed: u64)
-        ensures plan { self.new.plan ≡ stopped passed self.old.plan }
-        ensures file { bytes_of self.new ≡ bytes_of self.old }
-        ensures past { past_of self.new ≡ past_of self.old }
+        ensures { self.new ≡ record self.old { plan = stopped passed self.old.plan } }
     {
         let passed = self.plan.calls.saturating_add(passed);
         self.plan.failing = Failing::After { passed };
@@ -122,7 +124,7 @@ impl MemoryDisk {
 }
 
 impl Disk for MemoryDisk {
-    ghost use Rattle.fh_disk.specs.MemoryDisks.{bytes_of, past_of};
+    ghost use Rattle.fh_disk.specs.MemoryDisks.{bytes_of, past_of, reads_after};
 
     ghost told = { λ d. told_by d.past };
 
@@ -143,9 +145,7 @@ impl Disk for MemoryDisk {
     fn length(&mut self) -> Result<u64, Failed>
         ensures bytes { IfOk result (λ n. n ≡ length (bytes_of self.old)) }
         ensures fails { is_err result ≡ fails_next self.old.plan }
-        ensures plan { self.new.plan ≡ counted self.old.plan }
-        ensures file { bytes_of self.new ≡ bytes_of self.old }
-        ensures past { past_of self.new ≡ past_of self.old }
+        ensures same { self.new ≡ record self.old { plan = counted self.old.plan } }
     {
         if self.plan.fails_now() {
             return Err(Failed);
@@ -157,9 +157,7 @@ impl Disk for MemoryDisk {
         ensures bound { ReadsAtMost result buf.new }
         ensures bytes { IfOk result (λ n. ReadsAt (bytes_of self.old) at buf.new n) }
         ensures fails { is_err result ≡ fails_next self.old.plan }
-        ensures plan { self.new.plan ≡ counted self.old.plan }
-        ensures file { bytes_of self.new ≡ bytes_of self.old }
-        ensures past { past_of self.new ≡ past_of self.old }
+        ensures same { self.new ≡ record self.old { plan = counted self.old.plan; reads = reads_after (is_ok result) self.old.reads } }
     {
         if self.plan.fails_now() {
             return Err(Failed);
@@ -180,6 +178,7 @@ impl Disk for MemoryDisk {
         ensures fails { fails_next self.old.plan ≡ true → is_err result ≡ true }
         ensures surely { past_of self.old ≡ None → at + length bytes.now ≤ length (bytes_of self.old) → is_err result ≡ fails_next self.old.plan }
         ensures plan { OnOk result (self.new.plan ≡ counted self.old.plan) }
+        ensures reads { self.new.reads ≡ self.old.reads }
         ensures cause { HasCause self.old.plan.faults self.new.plan.faults result }
     {
         if self.plan.fails_now() {
@@ -202,6 +201,7 @@ impl Disk for MemoryDisk {
         ensures fails { fails_next self.old.plan ≡ true → is_err result ≡ true }
         ensures surely { past_of self.old ≡ None → is_err result ≡ fails_next self.old.plan }
         ensures plan { OnOk result (self.new.plan ≡ counted self.old.plan) }
+        ensures reads { self.new.reads ≡ self.old.reads }
         ensures cause { HasCause self.old.plan.faults self.new.plan.faults result }
     {
         if self.plan.fails_now() {
