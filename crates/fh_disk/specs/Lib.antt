@@ -1,4 +1,5 @@
 pub mod Disk
+pub mod Images
 pub mod MemoryDisks
 pub mod Moments
 pub mod Recorded

@@ -1,6 +1,7 @@
 // One of the files that a crash may leave.
 ghost use Rattle.std.specs.Prelude.{◌≡◌, ℕ, ◌+◌, ◌<◌, ◌≤◌, [], ◌∷◌, length, slice_index, IfOk, OnOk};
-ghost use Rattle.fh_disk.specs.Disk.{Torn};
+ghost use Rattle.fh_disk.specs.Disk.{written_at, Torn};
+ghost use Rattle.fh_disk.specs.Images.{synced_by};
 ghost use Rattle.fh_disk.specs.Recorded.{replayed, Leaves};
 
 use crate::Call;
@@ -15,7 +16,9 @@ pub(crate) fn image_of(
     calls: &[Call],
     choice: u64,
 ) -> Result<Vec<u8>, AllocError>
-    ensures { IfOk result (λ image. Leaves first.now (λ c. c ≡ first.now) calls.now image.items) }
+    ensures left { IfOk result (λ image. Leaves first.now (λ c. c ≡ first.now) calls.now image.items) }
+    ensures lost { choice ≡ 0 → IfOk result (λ image. image.items ≡ synced_by first.now first.now calls.now) }
+    ensures whole { choice ≡ 1 → IfOk result (λ image. image.items ≡ replayed first.now calls.now) }
 {
     let mut draw = Draw::new(choice);
     let mut file = Vec::from_slice(alloc, first)?;
@@ -36,6 +39,9 @@ fn go_on(
 ) -> Result<(), AllocError>
     ensures file { OnOk result (file.new.items ≡ replayed file.old.items (call.now ∷ [])) }
     ensures image { OnOk result (Leaves file.old.items (λ c. c ≡ image.old.items) (call.now ∷ []) image.new.items) }
+    ensures lost { draw.old.choice ≡ 0 → OnOk result (image.new.items ≡ synced_by image.old.items file.old.items (call.now ∷ [])) }
+    ensures whole { draw.old.choice ≡ 1 → image.old.items ≡ file.old.items → OnOk result (image.new.items ≡ replayed file.old.items (call.now ∷ [])) }
+    ensures choice { draw.new.choice ≡ draw.old.choice }
 {
     match call {
         Call::Write { at, bytes } => {
@@ -50,7 +56,10 @@ fn go_on(
 }
 
 fn tear(image: &mut Vec<u8>, at: u64, bytes: &[u8], draw: &mut Draw) -> Result<(), AllocError>
-    ensures { OnOk result (Torn at (length bytes.now) image.old.items image.new.items) }
+    ensures torn { OnOk result (Torn at (length bytes.now) image.old.items image.new.items) }
+    ensures lost { draw.old.choice ≡ 0 → OnOk result (image.new.items ≡ image.old.items) }
+    ensures whole { draw.old.choice ≡ 1 → OnOk result (image.new.items ≡ written_at at bytes.now image.old.items) }
+    ensures choice { draw.new.choice ≡ draw.old.choice }
 {
     match draw.fate() {
         Fate::Lost => Ok(()),
@@ -65,7 +74,8 @@ fn tear_to_pieces(
     bytes: &[u8],
     draw: &mut Draw,
 ) -> Result<(), AllocError>
-    ensures { OnOk result (Torn at (length bytes.now) image.old.items image.new.items) }
+    ensures torn { OnOk result (Torn at (length bytes.now) image.old.items image.new.items) }
+    ensures choice { draw.new.choice ≡ draw.old.choice }
 {
     let start = at as usize;
     let Some(end) = start.checked_add(bytes.len()) else {
@@ -83,6 +93,7 @@ fn tear_to_pieces(
 fn scatter(image: &mut [u8], from: usize, to: usize, start: usize, bytes: &[u8], draw: &mut Draw)
     ensures before { (i : ℕ) → i < from → slice_index image.new i ≡ slice_index image.old i }
     ensures behind { (i : ℕ) → to ≤ i → slice_index image.new i ≡ slice_index image.old i }
+    ensures choice { draw.new.choice ≡ draw.old.choice }
 {
     for i in from..to.min(image.len()) {
         let new = match bytes.get(i.wrapping_sub(start)) {

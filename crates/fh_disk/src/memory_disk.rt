@@ -1,10 +1,11 @@
 // A disk in memory, which tears at will.
-ghost use Rattle.std.specs.Prelude.{◌≡◌, ◌+◌, ◌≤◌, None, Some, length, true, is_err, is_ok, IsOk, IfOk, OnOk, OnErr};
+ghost use Rattle.std.specs.Prelude.{◌≡◌, ◌+◌, ◌≤◌, ℕ, List, None, Some, length, true, is_err, is_ok, IsOk, IfOk, IfSome, OnOk, OnErr};
 ghost use Rattle.std.specs.Io.{ReadsAtMost};
 ghost use Rattle.std.specs.Option.{option_map};
 ghost use Rattle.fh_base.specs.Faults.{HasCause};
 ghost use Rattle.fh_base.specs.FaultPlan.{fails_next, counted, raised};
 ghost use Rattle.fh_disk.specs.Disk.{written_at, ReadsAt, Torn, TornTold, Follows, NoNewImage, OnlyTold, Only};
+ghost use Rattle.fh_disk.specs.Images.{IsImage, synced_bytes, unsynced_writes};
 ghost use Rattle.fh_disk.specs.Moments.{Elapses};
 ghost use Rattle.fh_disk.specs.Recorded.{added, told_by, left_by, moment_of, left_since_by};
 ghost use Rattle.fh_disk.specs.RecordedLaws.{reads_as_image_by, counts_now_by, only_now_by};
@@ -107,6 +108,8 @@ impl MemoryDisk {
     /// range and past the old end may be any. A plain disk gives its bytes.
     pub fn image(&self, alloc: Global, choice: u64) -> Result<Vec<u8>, NoMemory>
         ensures left { IfOk result (λ image. left_by (past_of self.now) image.items) }
+        ensures lost { choice ≡ 0 → IfSome (past_of self.now) (λ past. IfOk result (λ image. image.items ≡ synced_bytes past)) }
+        ensures whole { choice ≡ 1 → IfOk result (λ image. image.items ≡ bytes_of self.now) }
         ensures plain { past_of self.now ≡ None → IfOk result (λ image. image.items ≡ bytes_of self.now) }
     {
         match &self.past {
@@ -114,6 +117,14 @@ impl MemoryDisk {
             None => Ok(Vec::from_slice(alloc, &self.bytes)?),
         }
     }
+
+    /// A law: what a crash may leave of a recording disk has a length from that at the last sync to the
+    /// greatest since, and the synced bytes at each place that no write since has named. Each file that
+    /// has these may be left.
+    pub fn law_of_images(&self)
+        ensures only { IfSome (past_of self.now) (λ past. (c : List ℕ) → left_by (Some past) c → IsImage (synced_bytes past) (unsynced_writes past) c) }
+        ensures each { IfSome (past_of self.now) (λ past. (c : List ℕ) → IsImage (synced_bytes past) (unsynced_writes past) c → left_by (Some past) c) }
+    {}
 
     fn refused(&mut self) -> Failed
         ensures { self.new ≡ record self.old { plan = record self.old.plan { faults = raised self.old.plan.faults } } }
