@@ -6,7 +6,6 @@ ghost use Rattle.fh_base.specs.Faults.{HasCause};
 ghost use Rattle.fh_base.specs.FaultPlan.{fails_next, counted, raised};
 ghost use Rattle.fh_disk.specs.Disk.{written_at, ReadsAt, Torn, TornTold, Follows, NoNewImage, OnlyTold, Only};
 ghost use Rattle.fh_disk.specs.Images.{IsImage, synced_bytes, unsynced_writes};
-ghost use Rattle.fh_disk.specs.Moments.{Elapses};
 ghost use Rattle.fh_disk.specs.Recorded.{added, told_by, left_by, moment_of, left_since_by};
 ghost use Rattle.fh_disk.specs.RecordedLaws.{reads_as_image_by, counts_now_by, only_now_by};
 ghost use Rattle.fh_disk.specs.Written.{Gives};
@@ -37,13 +36,13 @@ pub struct MemoryDisk {
 }
 
 impl MemoryDisk {
-    ghost use Rattle.fh_disk.specs.MemoryDisks.{bytes_of, past_of, calls_of, stopped};
+    ghost use Rattle.fh_disk.specs.MemoryDisks.{bytes_of, past_of, told_of, images_of, calls_of, stopped};
 
     /// A disk with these bytes, all of them synced, that keeps a record of its calls.
     pub fn recording(alloc: Global, bytes: Vec<u8>, plan: FaultPlan) -> Result<MemoryDisk, NoMemory>
         ensures bytes { IfOk result (λ disk. bytes_of disk ≡ bytes.items) }
-        ensures told { IfOk result (λ disk. told_by (past_of disk) ≡ Some bytes.items) }
-        ensures synced { IfOk result (λ disk. Only bytes.items (left_by (past_of disk))) }
+        ensures told { IfOk result (λ disk. told_of disk ≡ Some bytes.items) }
+        ensures synced { IfOk result (λ disk. Only bytes.items (images_of disk)) }
         ensures plan { IfOk result (λ disk. disk.plan ≡ plan) }
         ensures reads { IfOk result (λ disk. disk.reads ≡ 0) }
     {
@@ -73,7 +72,8 @@ impl MemoryDisk {
 
     /// What reads give.
     pub fn bytes(&self) -> &[u8]
-        ensures { result.now ≡ bytes_of self.now }
+        ensures bytes { result.now ≡ bytes_of self.now }
+        ensures told { IfSome (told_of self.now) (λ file. file ≡ result.now) }
     {
         &self.bytes
     }
@@ -107,7 +107,7 @@ impl MemoryDisk {
     /// lost, and by 1 they are whole; by any other number each has a fate of its own, and bytes in its
     /// range and past the old end may be any. A plain disk gives its bytes.
     pub fn image(&self, alloc: Global, choice: u64) -> Result<Vec<u8>, NoMemory>
-        ensures left { IfOk result (λ image. left_by (past_of self.now) image.items) }
+        ensures left { IfOk result (λ image. images_of self.now image.items) }
         ensures lost { choice ≡ 0 → IfSome (past_of self.now) (λ past. IfOk result (λ image. image.items ≡ synced_bytes past)) }
         ensures whole { choice ≡ 1 → IfOk result (λ image. image.items ≡ bytes_of self.now) }
         ensures plain { past_of self.now ≡ None → IfOk result (λ image. image.items ≡ bytes_of self.now) }
@@ -135,7 +135,7 @@ impl MemoryDisk {
 }
 
 impl Disk for MemoryDisk {
-    ghost use Rattle.fh_disk.specs.MemoryDisks.{bytes_of, past_of, reads_after};
+    ghost use Rattle.fh_disk.specs.MemoryDisks.{bytes_of, past_of, told_of, images_of, TimeGoesOn, called, reads_after};
 
     ghost told = { λ d. told_by d.past };
 
@@ -178,17 +178,17 @@ impl Disk for MemoryDisk {
     }
 
     fn write_at(&mut self, at: u64, bytes: &[u8]) -> Result<(), Failed>
-        ensures written { OnOk result (told_by (past_of self.new) ≡ option_map (written_at at bytes.now) (told_by (past_of self.old))) }
-        ensures torn { OnErr result (TornTold at (length bytes.now) (told_by (past_of self.old)) (told_by (past_of self.new))) }
-        ensures images { Follows (Torn at (length bytes.now)) (left_by (past_of self.old)) (left_by (past_of self.new)) }
-        ensures time { Elapses (moment_of (past_of self.old)) (moment_of (past_of self.new)) (left_since_by (past_of self.old)) (left_since_by (past_of self.new)) (left_by (past_of self.new)) }
+        ensures written { OnOk result (told_of self.new ≡ option_map (written_at at bytes.now) (told_of self.old)) }
+        ensures torn { OnErr result (TornTold at (length bytes.now) (told_of self.old) (told_of self.new)) }
+        ensures images { Follows (Torn at (length bytes.now)) (images_of self.old) (images_of self.new) }
+        ensures time { TimeGoesOn self.old self.new }
         ensures file { OnOk result (bytes_of self.new ≡ written_at at bytes.now (bytes_of self.old)) }
         ensures past { OnOk result (past_of self.new ≡ option_map (added (Write at bytes.now)) (past_of self.old)) }
         ensures same_file { OnErr result (bytes_of self.new ≡ bytes_of self.old) }
         ensures same_past { OnErr result (past_of self.new ≡ past_of self.old) }
         ensures fails { fails_next self.old.plan ≡ true → is_err result ≡ true }
         ensures surely { past_of self.old ≡ None → at + length bytes.now ≤ length (bytes_of self.old) → is_err result ≡ fails_next self.old.plan }
-        ensures plan { OnOk result (self.new.plan ≡ counted self.old.plan) }
+        ensures plan { self.new.plan ≡ called (is_err result) self.old.plan }
         ensures reads { self.new.reads ≡ self.old.reads }
         ensures cause { HasCause self.old.plan.faults self.new.plan.faults result }
     {
@@ -202,16 +202,16 @@ impl Disk for MemoryDisk {
     }
 
     fn sync(&mut self) -> Result<(), Failed>
-        ensures durable { OnOk result (OnlyTold (told_by (past_of self.new)) (left_by (past_of self.new))) }
-        ensures told { told_by (past_of self.new) ≡ told_by (past_of self.old) }
-        ensures images { NoNewImage (left_by (past_of self.old)) (left_by (past_of self.new)) }
-        ensures time { Elapses (moment_of (past_of self.old)) (moment_of (past_of self.new)) (left_since_by (past_of self.old)) (left_since_by (past_of self.new)) (left_by (past_of self.new)) }
+        ensures durable { OnOk result (OnlyTold (told_of self.new) (images_of self.new)) }
+        ensures told { told_of self.new ≡ told_of self.old }
+        ensures images { NoNewImage (images_of self.old) (images_of self.new) }
+        ensures time { TimeGoesOn self.old self.new }
         ensures past { OnOk result (past_of self.new ≡ option_map (added Sync) (past_of self.old)) }
         ensures same_past { OnErr result (past_of self.new ≡ past_of self.old) }
         ensures file { bytes_of self.new ≡ bytes_of self.old }
         ensures fails { fails_next self.old.plan ≡ true → is_err result ≡ true }
         ensures surely { past_of self.old ≡ None → is_err result ≡ fails_next self.old.plan }
-        ensures plan { OnOk result (self.new.plan ≡ counted self.old.plan) }
+        ensures plan { self.new.plan ≡ called (is_err result) self.old.plan }
         ensures reads { self.new.reads ≡ self.old.reads }
         ensures cause { HasCause self.old.plan.faults self.new.plan.faults result }
     {
