@@ -1,5 +1,5 @@
 -- What the calls of a disk do to its file, and what a crash between two syncs may leave of it.
-use Rattle.std.specs.Prelude.{◌≡◌, ◌⊎◌, ⊤, ℕ, ◌+◌, ◌-◌, ◌<◌, ◌≤◌, max, List, ◌++◌, length, take, drop, replicate, slice_get, Option, Some, None}
+use Rattle.std.specs.Prelude.{◌≡◌, ⊤, ℕ, ◌+◌, ◌-◌, ◌<◌, ◌≤◌, max, List, ◌++◌, length, take, drop, replicate, slice_get, Option, Some, None}
 
 -- the file with these bytes at this place, behind zeros where the place is past its end
 abbrev pub written_at : ℕ → List ℕ → List ℕ → List ℕ

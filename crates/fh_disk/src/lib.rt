@@ -2,9 +2,27 @@
 //!
 //! Promised to the layers above: a `Disk` reads what was written; what a crash at any moment may leave
 //! is said by the images, and after a sync that succeeded they are what reads give; a call fails only
-//! where the disk's count of faults rose in it.
+//! where the disk's count of faults rose in it. Nothing is said of these where a disk doesn't tell.
+//!
+//! A recording `MemoryDisk` tells all. Its images are any bytes at the places that writes since the last
+//! sync have named and past the old end, at any length up to the greatest since, and the synced bytes
+//! elsewhere. It fails exactly at the calls of its plan, and where memory is refused. A plain one tells
+//! nothing, and its calls that don't make the file longer take no memory. A `FileDisk` is a file of the
+//! host; that it keeps to the model is trusted.
 #![tactic(auto)]
 
+mod content;
 mod disk;
+mod draw;
+mod file_disk;
+mod image;
+mod memory_disk;
+mod record;
 
 pub use disk::Disk;
+pub use file_disk::FileDisk;
+pub use memory_disk::MemoryDisk;
+pub use record::{Call, Piece};
+
+#[cfg(test)]
+mod tests;
