@@ -1,6 +1,7 @@
 -- How one line goes on from the lines before it, and how a run ends behind them.
 use Rattle.std.proofs.Common.{◌≡◌, ℕ, ◌+◌, ◌<◌, ◌≤◌, Bool, true, false, ◌&&◌, List, [], ◌∷◌, ◌++◌, length, take, Option, Some, None, IfSome, refl, sym, ◌∙◌, ap, subst, arith, append_assoc, append-nil, if◌then◌else◌}
 use Rattle.std.specs.List.{list_all, fold}
+use Rattle.std.proofs.lemmas.List.Folds.{list_all-append}
 use Rattle.std.proofs.lemmas.List.Sums.{fold-append}
 use Rattle.std.proofs.lemmas.Bool.{le-leb}
 use Rattle.std.specs.Io.KnownBytes.{Appends, IsAtEnd}
@@ -23,16 +24,15 @@ appends-nothing (Some a) = sym (append-nil a)
 pub run-push : (done : List (List ℕ)) (line : List ℕ) → run (done ++ line ∷ []) ≡ after_line (run done) line
 run-push done line = fold-append after_line opening done (line ∷ [])
 
+both_true : (a b : Bool) → a ≡ true → b ≡ true → (a && b) ≡ true
+both_true true b first second = second
+both_true false b first second = first
+
 short-push : (done : List (List ℕ)) (line : List ℕ) → list_all is_short_line done ≡ true → line_length line ≤ 140000
   → list_all is_short_line (done ++ line ∷ []) ≡ true
-short-push done line short fits = go done short
-  where
-    both : (a b : Bool) → (a && b) ≡ true → (a ≡ true) × (b ≡ true)
-    both true b e = (refl, e)
-    both false b e = (e, cc)
-    go : (l : List (List ℕ)) → list_all is_short_line l ≡ true → list_all is_short_line (l ++ line ∷ []) ≡ true
-    go [] e = rw (le-leb (line_length line) 140000 fits) refl
-    go (x ∷ l) e = rw ((both _ _ e).0) (go l (both _ _ e).1)
+short-push done line short fits =
+  let one : list_all is_short_line (line ∷ []) ≡ true = both_true (is_short_line line) true (le-leb (line_length line) 140000 fits) refl in
+  list_all-append is_short_line done (line ∷ []) ∙ both_true _ _ short one
 
 reads-push : (was mid now : Option (List ℕ)) (done : List (List ℕ)) (line : List ℕ) → Reads was mid done → ReadsLine mid now line true
   → Reads was now (done ++ line ∷ [])
@@ -134,14 +134,15 @@ first_of (line ∷ more) = line
 
 line_length-first_of : (bytes : List ℕ) → line_length (first_of (lines bytes)) ≡ line_length bytes
 line_length-first_of [] = refl
-line_length-first_of (b ∷ rest) = by_cases (is_line_feed b) refl
+line_length-first_of (b ∷ rest) = by_cases (is_line_feed b) refl (line_length-first_of rest)
   where
     in_front : (l : List (List ℕ)) → is_line_feed b ≡ false → line_length (first_of (before_lines b l)) ≡ line_length (first_of l) + 1
     in_front [] plain = rw plain refl
     in_front (line ∷ more) plain = rw plain refl
-    by_cases : (f : Bool) → is_line_feed b ≡ f → line_length (first_of (lines (b ∷ rest))) ≡ line_length (b ∷ rest)
-    by_cases true feed = rw feed (rw feed refl)
-    by_cases false plain = rw plain (in_front (lines rest) plain ∙ ap (λ (n : ℕ). n + 1) (line_length-first_of rest))
+    by_cases : (f : Bool) → is_line_feed b ≡ f → line_length (first_of (lines rest)) ≡ line_length rest
+      → line_length (first_of (lines (b ∷ rest))) ≡ line_length (b ∷ rest)
+    by_cases true feed behind = rw feed (rw feed refl)
+    by_cases false plain behind = rw plain (in_front (lines rest) plain ∙ ap (λ (n : ℕ). n + 1) behind)
 
 long_next : (was left : Option (List ℕ)) (done : List (List ℕ)) → Reads was left done → StartsLong left → IsLongNext was (rest_of left)
 long_next None left done read long = tt
@@ -149,8 +150,8 @@ long_next (Some a) None done read long = absurd read
 long_next (Some a) (Some b) done read long = from (lines b) (rw (line_length-first_of b) long)
   where
     from : (l : List (List ℕ)) → 140000 < line_length (first_of l) → IsLongNext (Some a) l
-    from [] no = omega (arith, no)
-    from (line ∷ more) yes_long = yes_long
+    from [] none = absurd (omega (arith, none))
+    from (line ∷ more) longer = longer
 
 rose_since : (first before now : ℕ) → first ≤ before → Rose before now → Rose first now
 rose_since first before now later rose = omega (arith, later, rose)
@@ -240,3 +241,63 @@ write_stops was now left mid_written mid_told world world' line text written bef
     opening = short;
   },
 )
+
+from_wrote : (was mid now : Outside) (done more : List (List ℕ)) (behind : List ℕ) → mid.left ≡ was.left → mid.written ≡ was.written
+  → Wrote mid now done more behind → Wrote was now done more behind
+from_wrote was mid now done more behind left written it = record {
+  read = subst (λ (l : Option (List ℕ)). HasLines l (done ++ more)) left it.read;
+  short = it.short;
+  texts = subst (λ (w : Option (List ℕ)). Appends w now.written ((run done).written ++ behind)) written it.texts;
+}
+
+from_answered : (was mid now : Outside) (more : List (List ℕ)) → mid.left ≡ was.left → mid.written ≡ was.written
+  → IfSome was.told (λ file. length file ≤ 7) → Answered mid now more [] → Answered was now more []
+from_answered was mid now more left written short it = record {
+  done = it.done;
+  wrote = from_wrote was mid now it.done more [] left written it.wrote;
+  gate = it.gate;
+  stands = it.stands;
+  opening = short;
+}
+
+from_cut_off : (was mid now : Outside) → mid.left ≡ was.left → mid.written ≡ was.written
+  → IfSome was.told (λ file. length file ≤ 7) → CutOff mid now → CutOff was now
+from_cut_off was mid now left written short it = record {
+  done = it.done;
+  line = it.line;
+  more = it.more;
+  written = it.written;
+  part = it.part;
+  wrote = from_wrote was mid now it.done (it.line ∷ it.more) _ left written it.wrote;
+  gate = it.gate;
+  stands = it.stands;
+  opening = short;
+}
+
+-- the same reason of a run that began with mounting
+pub from_start : (was mid now : Outside) (end : End) → mid.left ≡ was.left → mid.written ≡ was.written → mid.read_faults ≡ was.read_faults
+  → mid.write_faults ≡ was.write_faults → was.disk_faults ≤ mid.disk_faults → IfSome was.told (λ file. length file ≤ 7)
+  → (end ≡ Usage → ⊥) → (end ≡ Damaged → ⊥) → HasReason mid now [] end → HasReason was now [] end
+from_start was mid now Finished left written reads writes disk short asked whole reason = (from_answered was mid now [] left written short reason.0, reason.1)
+from_start was mid now Usage left written reads writes disk short asked whole reason = absurd (asked refl)
+from_start was mid now Damaged left written reads writes disk short asked whole reason = absurd (whole refl)
+from_start was mid now ReadFault left written reads writes disk short asked whole reason =
+  (subst (λ (n : ℕ). Rose n now.read_faults) reads reason.0, (reason.1.0, from_answered was mid now reason.1.0 left written short reason.1.1))
+from_start was mid now DiskFault left written reads writes disk short asked whole reason =
+  (rose_since _ _ _ disk reason.0, (reason.1.0, (reason.1.1.0, from_wrote was mid now reason.1.0 reason.1.1.0 [] left written reason.1.1.1)))
+from_start was mid now WriteFault left written reads writes disk short asked whole reason =
+  (subst (λ (n : ℕ). Rose n now.write_faults) writes reason.0, from_cut_off was mid now left written short reason.1)
+from_start was mid now LongLine left written reads writes disk short asked whole reason =
+  (reason.0, (subst (λ (l : Option (List ℕ)). IsLongNext l reason.0) left reason.1.0, from_answered was mid now reason.0 left written short reason.1.1))
+from_start was mid now NoMemory left written reads writes disk short asked whole reason =
+  (reason.0, from_answered was mid now reason.0 left written short reason.1)
+
+-- the same reason, told by an equal disk
+pub from_disk : {D : Type 0} (told : D → Option (List ℕ)) (faults : D → ℕ) (now known : D) → now ≡ known
+  → (was : Outside) (left written : Option (List ℕ)) (reads writes : ℕ) (end : End)
+  → HasReason was (record { left = left; read_faults = reads; written = written; write_faults = writes; told = told known; disk_faults = faults known }) [] end
+  → HasReason was (record { left = left; read_faults = reads; written = written; write_faults = writes; told = told now; disk_faults = faults now }) [] end
+from_disk {D} told faults now known same was left written reads writes end reason =
+  subst
+    (λ (d : D). HasReason was (record { left = left; read_faults = reads; written = written; write_faults = writes; told = told d; disk_faults = faults d }) [] end)
+    (sym same) reason

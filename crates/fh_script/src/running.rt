@@ -1,9 +1,10 @@
 // The top call of the script.
-ghost use Rattle.std.specs.Prelude.{◌≡◌, ◌≢◌, ◌≤◌, ◌==◌, [], true, false, not, length, take, ℕ, IfErr, OnOk, List};
+ghost use Rattle.std.specs.Prelude.{◌≡◌, ◌≤◌, ◌==◌, [], true, false, not, length, take, ℕ, IfSome};
 ghost use Rattle.std.specs.Io.KnownBytes.{Appends};
 ghost use Rattle.fh_base.specs.Faults.{Rose};
 ghost use Rattle.fh_script.specs.Ends.{code_of, last_line};
-ghost use Rattle.fh_script.specs.Machine.{world};
+ghost use Rattle.fh_journal.specs.Journal.{StandsFor};
+ghost use Rattle.fh_script.specs.Machine.{world, opening};
 ghost use Rattle.fh_script.specs.Script.{is_script, HasReason, EndsBy, Outside};
 ghost use Rattle.fh_script.specs.Concluding.{Concludes};
 
@@ -75,7 +76,7 @@ fn run<S: Source, O: Sink, J: Disk>(
         (record { left = S.left source.new; read_faults = S.read_faults source.new; written = O.written sink.new; write_faults = O.write_faults sink.new; told = J.told journal.new; disk_faults = J.disk_faults journal.new })
         [] result }
     ensures unread { result ≡ End.Damaged → source.new ≡ source.old }
-    ensures asked { result ≢ End.Usage }
+    ensures asked { result ≡ End.Usage → ⊥ }
     ensures count { O.write_faults sink.old ≤ O.write_faults sink.new }
 {
     let gate = match prepare(journal) {
@@ -84,6 +85,30 @@ fn run<S: Source, O: Sink, J: Disk>(
         Err(MountFault::DiskFault) => return End::DiskFault,
     };
     let mut session = Session::new(alloc, Journal::over(journal, gate));
+    let end = answer_lines(alloc, source, sink, &mut session);
+    session.close();
+    end
+}
+
+// Answers the lines over a journal of no frames.
+fn answer_lines<S: Source, O: Sink, J: Disk>(
+    alloc: Global,
+    source: &mut S,
+    sink: &mut O,
+    session: &mut Session<'_, J>,
+) -> End
+    requires begun { world session.old.queues.names session.old.messages session.old.journal.gate ≡ opening.world }
+    requires stands { StandsFor (J.told session.old.journal.disk.now) [] session.old.journal.gate }
+    requires short { IfSome (J.told session.old.journal.disk.now) (λ file. length file ≤ 7) }
+    ensures reason { HasReason
+        (record { left = S.left source.old; read_faults = S.read_faults source.old; written = O.written sink.old; write_faults = O.write_faults sink.old; told = J.told session.old.journal.disk.now; disk_faults = J.disk_faults session.old.journal.disk.now })
+        (record { left = S.left source.new; read_faults = S.read_faults source.new; written = O.written sink.new; write_faults = O.write_faults sink.new; told = J.told session.new.journal.disk.now; disk_faults = J.disk_faults session.new.journal.disk.now })
+        [] result }
+    ensures asked { result ≡ End.Usage → ⊥ }
+    ensures whole { result ≡ End.Damaged → ⊥ }
+    ensures writes { O.write_faults sink.old ≤ O.write_faults sink.new }
+    ensures same { session.new.journal.disk.ghost_name ≡ session.old.journal.disk.ghost_name }
+{
     let mut line = Vec::new(alloc);
     loop {
         match read_line(source, &mut line) {

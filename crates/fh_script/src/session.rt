@@ -47,6 +47,15 @@ impl<'d, J: Disk> Session<'d, J> {
         }
     }
 
+    /// Gives the disk back.
+    pub fn close(self) -> &'d mut J
+        ensures { (result.ghost_name ≡ self.entry.journal.disk.ghost_name) × (result.now ≡ self.entry.journal.disk.now) }
+    {
+        let journal = self.journal;
+        let disk = journal.disk;
+        disk
+    }
+
     /// Does what a line says, and gives the text that answers it: empty for a line of no words. All
     /// memory is taken before the first device call.
     #[tactic(auto, unfolding(crate::specs::Machine::answer_line))]
