@@ -2,3 +2,4 @@ pub mod LineReading
 pub mod Recording
 pub mod Turns
 pub mod Turning
+pub mod LastLines

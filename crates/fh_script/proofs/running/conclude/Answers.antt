@@ -1,4 +1,4 @@
-use Rattle.std.proofs.Common.{◌≡◌, ℕ, ◌<◌, ◌≤◌, List, length, take, Option, Result, Ok, Err, arith, sym, ◌∙◌, subst, take_all}
+use Rattle.std.proofs.Common.{◌≡◌, ℕ, ◌<◌, ◌≤◌, List, length, take, Option, Result, Ok, Err, refl, arith, sym, ◌∙◌, subst, take_all}
 use Rattle.std.specs.Io.KnownBytes.{Appends}
 use Rattle.fh_base.specs.declared.faults.Failed.{Failed}
 use Rattle.fh_base.specs.Faults.{Rose, HasCause}
@@ -17,7 +17,7 @@ concludes was now line before after (Ok done) writes cause = record {
 concludes was now line before after (Err failed) writes cause = record {
   written = writes.0;
   part = writes.2;
-  whole = λ less. cause.failed tt;
+  whole = λ less. cause.failed refl;
 }
 
 pub returns-clause-written : goal.returns-clause-written
