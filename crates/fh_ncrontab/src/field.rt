@@ -1,0 +1,83 @@
+ghost use Rattle.std.specs.Prelude.{◌≡◌, ℕ, ◌<◌, ◌≤◌, IsTrue, ◌↔◌, true, SomeIff, Some};
+ghost use Rattle.fh_ncrontab.specs.Sets.{holds, IsSetWithin, IsNextIn};
+
+use std::marker::Model;
+
+/// A set of numbers from `LO` to `HI`, never empty. Contracts see its mask.
+#[derive(Clone, Copy, Debug, PartialEq, Eq)]
+pub struct Field<const LO: u8, const HI: u8> {
+    bits: u64,
+}
+
+impl<const LO: u8, const HI: u8> Model for Field<LO, HI> {
+    ghost use Rattle.std.specs.Prelude.{ℕ};
+    ghost use Rattle.fh_ncrontab.specs.Sets.{IsSetWithin};
+
+    ghost Value = { ℕ };
+
+    ghost view = { λ f. f.bits };
+
+    ghost invariant = { λ f. IsSetWithin LO HI f.bits };
+
+    ghost inverse = { λ n. record { bits = n } };
+}
+
+impl<const LO: u8, const HI: u8> Field<LO, HI> {
+    /// Whether `n` is in the set.
+    pub fn holds(&self, n: u8) -> bool
+        ensures { result ≡ holds self.now n }
+    {
+        has_bit(self.bits, n)
+    }
+
+    /// The set as a mask: bit n stands for the number n.
+    pub fn mask(&self) -> u64
+        ensures value { result ≡ self.now }
+        ensures set { IsSetWithin LO HI result }
+    {
+        self.bits
+    }
+
+    /// The set with this mask, and `None` where the mask is 0 or has a number outside.
+    pub fn of_mask(mask: u64) -> Option<Self>
+        ensures { SomeIff result (IsSetWithin LO HI mask) mask }
+    {
+        if mask == 0 {
+            return None;
+        }
+        for n in 0..64u8 {
+            if has_bit(mask, n) && (n < LO || n > HI) {
+                return None;
+            }
+        }
+        Some(Field { bits: mask })
+    }
+
+    /// The least number of the set from `n` on.
+    pub fn first_from(&self, n: u8) -> Option<u8>
+        requires { n < 64 }
+        ensures least { IsNextIn self.now n result }
+        ensures within { (k : ℕ) → holds self.now k ≡ true → (LO ≤ k) × (k ≤ HI) }
+    {
+        let rest = self.bits >> n;
+        if rest == 0 {
+            return None;
+        }
+        Some(n + rest.trailing_zeros() as u8)
+    }
+
+    /// The least number of the set.
+    pub fn least(&self) -> u8
+        ensures least { IsNextIn self.now 0 (Some result) }
+        ensures within { (k : ℕ) → holds self.now k ≡ true → (LO ≤ k) × (k ≤ HI) }
+    {
+        self.bits.trailing_zeros() as u8
+    }
+}
+
+/// Whether bit `n` is 1.
+fn has_bit(bits: u64, n: u8) -> bool
+    ensures { result ≡ holds bits n }
+{
+    n < 64 && (bits >> n) & 1 == 1
+}

@@ -1,0 +1,5 @@
+#![tactic(auto)]
+
+mod field;
+
+pub use field::Field;
