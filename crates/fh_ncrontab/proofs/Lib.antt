@@ -1,1 +1,3 @@
+pub mod CarryLemmas
+pub mod DayLemmas
 pub mod SetLemmas

@@ -1,5 +1,8 @@
 #![tactic(auto)]
 
+mod dates;
 mod field;
+mod schedule;
 
 pub use field::Field;
+pub use schedule::Schedule;
