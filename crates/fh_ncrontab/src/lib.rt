@@ -1,8 +1,12 @@
 #![tactic(auto)]
 
 mod dates;
+mod fault;
 mod field;
+mod names;
+mod part;
 mod schedule;
 
+pub use fault::{CronFault, FieldFault};
 pub use field::Field;
 pub use schedule::Schedule;
