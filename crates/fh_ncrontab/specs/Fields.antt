@@ -80,9 +80,18 @@ part_of lo hi text = part_by lo hi text (cut_at 47 text)
 abbrev pub part_has : Part → ℕ → Bool
 part_has p n = (nat_le p.first n && nat_le n p.last) && ((n - p.first) % p.step == 0)
 
+-- the pieces of a text between bytes c
+abbrev pub pieces : ℕ → List ℕ → List (List ℕ)
+pieces c text = slice_split (λ b. b == c) text
+
+-- the pieces of what is left of a text, if anything is
+abbrev pub pieces_left : ℕ → Option (List ℕ) → List (List ℕ)
+pieces_left c None = []
+pieces_left c (Some text) = pieces c text
+
 -- the parts of a field stand between commas
 abbrev pub parts : List ℕ → List (List ℕ)
-parts text = slice_split (λ b. b == 44) text
+parts text = pieces 44 text
 
 abbrev pub result_has : Result Part FieldFault → ℕ → Bool
 result_has (Ok p) n = part_has p n

@@ -1,6 +1,9 @@
-ghost use Rattle.std.specs.Prelude.{◌≡◌, ℕ, ◌<◌, ◌≤◌, IsTrue, ◌↔◌, true, SomeIff, Some};
+ghost use Rattle.std.specs.Prelude.{◌≡◌, ℕ, ◌<◌, ◌≤◌, IsTrue, ◌↔◌, true, SomeIff, Some, IfOk, IfErr};
 ghost use Rattle.fh_ncrontab.specs.Sets.{holds, IsSetWithin, IsNextIn};
+ghost use Rattle.fh_ncrontab.specs.Fields.{IsFieldOf, first_fault, parts};
 
+use crate::FieldFault;
+use crate::part::{Part, first_piece};
 use std::marker::Model;
 
 /// A set of numbers from `LO` to `HI`, never empty. Contracts see its mask.
@@ -23,6 +26,25 @@ impl<const LO: u8, const HI: u8> Model for Field<LO, HI> {
 }
 
 impl<const LO: u8, const HI: u8> Field<LO, HI> {
+    /// Reads the text of a field: parts between commas, of which the first faulty one from the
+    /// left decides the fault. A part is `*`, a value or a range `a-b`, maybe with a step `/n`.
+    /// Takes no memory.
+    pub fn read(text: &str) -> Result<Self, FieldFault>
+        requires order { LO ≤ HI }
+        requires high { HI < 64 }
+        ensures set { IfOk result (λ f. IsFieldOf LO HI text.now f) }
+        ensures fault { IfErr result (λ e. first_fault LO HI (parts text.now) ≡ Some e) }
+    {
+        let mut mask = 0;
+        let mut rest = Some(text);
+        while let Some(here) = rest {
+            let (part, after) = first_piece(here, ',');
+            mask = Part::read(part, LO, HI)?.added_to(mask);
+            rest = after;
+        }
+        Ok(Field { bits: mask })
+    }
+
     /// Whether `n` is in the set.
     pub fn holds(&self, n: u8) -> bool
         ensures { result ≡ holds self.now n }

@@ -6,6 +6,7 @@ mod field;
 mod names;
 mod part;
 mod schedule;
+mod text;
 
 pub use fault::{CronFault, FieldFault};
 pub use field::Field;

@@ -1,7 +1,7 @@
 // One part of a field: `*`, a value or a range, and maybe a step.
-ghost use Rattle.std.specs.Prelude.{◌≡◌, ℕ, ◌<◌, ◌≤◌, ◌||◌, IfOk, IfSome, option_map};
+ghost use Rattle.std.specs.Prelude.{◌≡◌, ℕ, ◌<◌, ◌≤◌, ◌||◌, ◌∷◌, length, IfOk, IfSome, option_copied, option_map};
 ghost use Rattle.fh_ncrontab.specs.Sets.{holds};
-ghost use Rattle.fh_ncrontab.specs.Fields.{number_of, named, value_of, cut_at, ends_of, within, part_of, part_has};
+ghost use Rattle.fh_ncrontab.specs.Fields.{number_of, named, value_of, cut_at, ends_of, within, part_of, part_has, pieces, pieces_left};
 
 use crate::FieldFault;
 use crate::names::{day_named, month_named};
@@ -136,4 +136,16 @@ pub(crate) fn cut_at(text: &str, at: char) -> Option<(&str, &str)>
     ensures { option_map (λ x. (x.0.now, x.1.now)) result ≡ cut_at at text.now }
 {
     text.split_once(at)
+}
+
+// The first piece of a text between such characters, and what stands behind it, if anything does.
+pub(crate) fn first_piece(text: &str, at: char) -> (&str, Option<&str>)
+    requires { at < 128 }
+    ensures pieces { pieces at text.now ≡ result.0.now ∷ pieces_left at (option_copied result.1) }
+    ensures shorter { IfSome (option_copied result.1) (λ rest. length rest < length text.now) }
+{
+    match cut_at(text, at) {
+        Some((piece, rest)) => (piece, Some(rest)),
+        None => (text, None),
+    }
 }
