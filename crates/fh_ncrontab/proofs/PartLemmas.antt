@@ -24,11 +24,6 @@ part_has-yes p n low high even = grind (arith, nat_tests)
 pub part_has-no : (p : Part) (n : ℕ) → (((n - p.first) % p.step ≡ 0) → ⊥) → part_has p n ≡ false
 part_has-no p n odd = grind (arith, nat_tests)
 
--- how long what is left is, where nothing is shorter than an empty text
-abbrev pub length_left : Option (List ℕ) → ℕ
-length_left None = 0
-length_left (Some text) = 1 + length text
-
 cut_told : (t : Bool) (x y : List ℕ × List ℕ) → Some x ≡ cond t (Some y) None → (t ≡ true) × (x ≡ y)
 cut_told true x y is = (refl, cc)
 cut_told false x y is = absurd cc

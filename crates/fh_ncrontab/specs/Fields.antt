@@ -89,6 +89,11 @@ abbrev pub pieces_left : ℕ → Option (List ℕ) → List (List ℕ)
 pieces_left c None = []
 pieces_left c (Some text) = pieces c text
 
+-- how long what is left is, where nothing counts less than an empty text
+abbrev pub length_left : Option (List ℕ) → ℕ
+length_left None = 0
+length_left (Some text) = 1 + length text
+
 -- the parts of a field stand between commas
 abbrev pub parts : List ℕ → List (List ℕ)
 parts text = pieces 44 text

@@ -13,6 +13,11 @@ use Rattle.fh_ncrontab.specs.Schedule.{IsIn, last_second}
 abbrev pub words : List ℕ → List (List ℕ)
 words text = filter (λ word. nat_lt 0 (length word)) (pieces 32 text)
 
+-- the words of what is left of a text, if anything is
+abbrev pub words_left : Option (List ℕ) → List (List ℕ)
+words_left None = []
+words_left (Some text) = words text
+
 -- a schedule has six fields; where five are given, the second is 0
 abbrev pub fields : List ℕ → List (List ℕ)
 fields text = if length (words text) == 5 then codes "0" ∷ words text else words text

@@ -1,8 +1,10 @@
-ghost use Rattle.std.specs.Prelude.{◌≡◌, ◌<◌, ◌≤◌, pos, ◌≤ℤ◌, IfSome, Some};
+ghost use Rattle.std.specs.Prelude.{◌≡◌, ◌<◌, ◌≤◌, ◌↔◌, ◌||◌, ◌==◌, length, pos, ◌≤ℤ◌, IsTrue, IsSome, IfSome, IfOk, IfErr, Some};
 ghost use Rattle.fh_ncrontab.specs.Sets.{IsLeastFrom};
-ghost use Rattle.fh_ncrontab.specs.Schedule.{MinuteIn, TimeIn, IsIn, IsNext};
+ghost use Rattle.fh_ncrontab.specs.Schedule.{MinuteIn, TimeIn, IsIn, IsNext, masks_of, AreMasks};
+ghost use Rattle.fh_ncrontab.specs.Texts.{words, field_fault, IsScheduleOf, Runs, IsFaultOf};
 
-use crate::Field;
+use crate::text::{count_words, read_field};
+use crate::{CronFault, Field};
 
 /// When a timer fires: the seconds whose UTC date and time have all six numbers in these sets.
 #[derive(Clone, Copy, Debug, PartialEq, Eq)]
@@ -22,6 +24,80 @@ const HOUR: u64 = 3600;
 const DAY: u64 = 86400;
 
 impl Schedule {
+    /// Reads the text of a schedule: six fields between runs of spaces, or five with the second 0.
+    /// Faults come by the count of fields, then by the first faulty field from the left, and then
+    /// `NeverRuns`. Takes no memory.
+    pub fn read(text: &str) -> Result<Schedule, CronFault>
+        ensures sets { IfOk result (λ s. IsScheduleOf text.now s) }
+        ensures runs { IfOk result (λ s. Runs s) }
+        ensures fault { IfErr result (λ e. IsFaultOf text.now e) }
+    {
+        let given = count_words(text);
+        if given != 5 && given != 6 {
+            return Err(CronFault::FieldCount { given });
+        }
+        let schedule = Schedule::read_fields(text, given)?;
+        if schedule.first_from(0).is_none() {
+            return Err(CronFault::NeverRuns);
+        }
+        Ok(schedule)
+    }
+
+    // The sets of the fields, where the text has that many words.
+    fn read_fields(text: &str, given: u64) -> Result<Schedule, CronFault>
+        requires given { given ≡ length (words text.now) }
+        requires count { IsTrue ((given == 5) || (given == 6)) }
+        ensures sets { IfOk result (λ s. IsScheduleOf text.now s) }
+        ensures fault { IfErr result (λ e. field_fault text.now ≡ Some e) }
+    {
+        let second = read_field(text, given, 0)?;
+        let minute = read_field(text, given, 1)?;
+        let hour = read_field(text, given, 2)?;
+        let day = read_field(text, given, 3)?;
+        let month = read_field(text, given, 4)?;
+        let weekday = read_field(text, given, 5)?;
+        Ok(Schedule {
+            second,
+            minute,
+            hour,
+            day,
+            month,
+            weekday,
+        })
+    }
+
+    /// The sets as masks, in the order of the fields: bit n stands for the number n.
+    pub fn masks(&self) -> [u64; 6]
+        ensures masks { result ≡ masks_of self.now }
+        ensures sets { AreMasks result }
+    {
+        [
+            self.second.mask(),
+            self.minute.mask(),
+            self.hour.mask(),
+            self.day.mask(),
+            self.month.mask(),
+            self.weekday.mask(),
+        ]
+    }
+
+    /// The schedule with these masks, and `None` exactly where a mask is 0 or has a number outside
+    /// its field. It may be one that never runs.
+    pub fn of_masks(masks: [u64; 6]) -> Option<Schedule>
+        ensures some { IsSome result ↔ AreMasks masks }
+        ensures schedule { IfSome result (λ s. masks_of s ≡ masks) }
+    {
+        let [second, minute, hour, day, month, weekday] = masks;
+        Some(Schedule {
+            second: Field::of_mask(second)?,
+            minute: Field::of_mask(minute)?,
+            hour: Field::of_mask(hour)?,
+            day: Field::of_mask(day)?,
+            month: Field::of_mask(month)?,
+            weekday: Field::of_mask(weekday)?,
+        })
+    }
+
     /// The least second of the schedule after `second`, up to the end of the year 9999.
     pub fn next_after(&self, second: i64) -> Option<i64>
         requires low { pos 0 ≤ℤ second }

@@ -1,7 +1,7 @@
 // The text of a schedule: words between runs of spaces, each read as a field.
-ghost use Rattle.std.specs.Prelude.{◌≡◌, ℕ, ◌<◌, ◌≤◌, ◌||◌, ◌==◌, ◌∷◌, [], Some, length, slice_index_or, IsTrue, IfOk, IfErr, IfSome, IfNone};
-ghost use Rattle.fh_ncrontab.specs.Fields.{IsFieldOf};
-ghost use Rattle.fh_ncrontab.specs.Texts.{words, field, fault_at};
+ghost use Rattle.std.specs.Prelude.{◌≡◌, ℕ, ◌<◌, ◌≤◌, ◌||◌, ◌==◌, ◌∷◌, [], Some, length, slice_index_or, IsTrue, IfOk, IfErr, IfSome, IfNone, option_copied};
+ghost use Rattle.fh_ncrontab.specs.Fields.{IsFieldOf, length_left};
+ghost use Rattle.fh_ncrontab.specs.Texts.{words, words_left, field, fault_at};
 
 use crate::part::first_piece;
 use crate::{CronFault, Field, FieldFault};
@@ -48,7 +48,7 @@ pub(crate) fn count_words(text: &str) -> u64
     ensures { result ≡ length (words text.now) }
 {
     let mut count = 0;
-    let mut rest = text;
+    let mut rest = Some(text);
     while let Some((_, after)) = first_word(rest) {
         count += 1;
         rest = after;
@@ -62,7 +62,7 @@ fn word(text: &str, index: u8) -> &str
     ensures { result.now ≡ slice_index_or (words text.now) index [] }
 {
     let mut before = index;
-    let mut rest = text;
+    let mut rest = Some(text);
     while let Some((word, after)) = first_word(rest) {
         if before == 0 {
             return word;
@@ -73,17 +73,19 @@ fn word(text: &str, index: u8) -> &str
     unreachable!()
 }
 
-// The first word, and what stands behind it.
-fn first_word(text: &str) -> Option<(&str, &str)>
-    ensures words { IfSome result (λ x. words text.now ≡ x.0.now ∷ words x.1.now) }
-    ensures shorter { IfSome result (λ x. length x.1.now < length text.now) }
-    ensures none { IfNone result (words text.now ≡ []) }
+// The first word of what is left of a text, and what is left behind it.
+fn first_word(text: Option<&str>) -> Option<(&str, Option<&str>)>
+    ensures words { IfSome result (λ x. words_left (option_copied text.entry)
+        ≡ x.0.now ∷ words_left (option_copied x.1)) }
+    ensures shorter { IfSome result (λ x. length_left (option_copied x.1)
+        < length_left (option_copied text.entry)) }
+    ensures none { IfNone result (words_left (option_copied text.entry) ≡ []) }
 {
-    let mut rest = Some(text);
+    let mut rest = text;
     while let Some(here) = rest {
         let (piece, after) = first_piece(here, ' ');
         if !piece.is_empty() {
-            return Some((piece, after.unwrap_or("")));
+            return Some((piece, after));
         }
         rest = after;
     }
