@@ -53,7 +53,7 @@ impl<const LO: u8, const HI: u8> Field<LO, HI> {
     }
 
     /// The set as a mask: bit n stands for the number n.
-    pub fn mask(&self) -> u64
+    pub(crate) fn mask(&self) -> u64
         ensures value { result ≡ self.now }
         ensures set { IsSetWithin LO HI result }
     {
@@ -61,7 +61,7 @@ impl<const LO: u8, const HI: u8> Field<LO, HI> {
     }
 
     /// The set with this mask, and `None` where the mask is 0 or has a number outside.
-    pub fn of_mask(mask: u64) -> Option<Self>
+    pub(crate) fn of_mask(mask: u64) -> Option<Self>
         ensures { SomeIff result (IsSetWithin LO HI mask) mask }
     {
         if mask == 0 {
@@ -76,7 +76,7 @@ impl<const LO: u8, const HI: u8> Field<LO, HI> {
     }
 
     /// The least number of the set from `n` on.
-    pub fn first_from(&self, n: u8) -> Option<u8>
+    pub(crate) fn first_from(&self, n: u8) -> Option<u8>
         requires { n < 64 }
         ensures least { IsNextIn self.now n result }
         ensures within { (k : ℕ) → holds self.now k ≡ true → (LO ≤ k) × (k ≤ HI) }
@@ -89,7 +89,7 @@ impl<const LO: u8, const HI: u8> Field<LO, HI> {
     }
 
     /// The least number of the set.
-    pub fn least(&self) -> u8
+    pub(crate) fn least(&self) -> u8
         ensures least { IsNextIn self.now 0 (Some result) }
         ensures within { (k : ℕ) → holds self.now k ≡ true → (LO ≤ k) × (k ≤ HI) }
     {
