@@ -27,12 +27,15 @@ joined P Q p u small upper lower =
 
 -- the next upper number is p, behind that of x
 pub carry-later : (P Q : ℕ → Type 0) (x p u : ℕ) → u < 86400 → x / 86400 < p → ((k : ℕ) → x ≤ k → k / 86400 < p → ¬ InBoth P Q k) → P p → IsLeastFrom Q 0 (Some u) → IsLeastFrom (InBoth P Q) x (Some (p * 86400 + u))
-carry-later P Q x p u small later before upper (low, lower, least) =
-    (omega arith, joined P Q p u small upper lower, λ k from below is.
-    elim (cases_lt (k / 86400) p) [
-      | inl lt ↦ before k from lt is
-      | inr ge ↦ least (k % 86400) (omega arith) (omega arith) is.1
-    ])
+carry-later P Q x p u small later before upper (low, lower, least) = (
+  omega arith,
+  joined P Q p u small upper lower,
+  λ k from below is.
+      elim (cases_lt (k / 86400) p) [
+        | inl lt ↦ before k from lt is
+        | inr ge ↦ least (k % 86400) (omega arith) (omega arith) is.1
+      ],
+)
 
 -- where the upper number of x isn't in P
 pub carry-apart : (P Q : ℕ → Type 0) (x p : ℕ) → IsLeastFrom P (x / 86400) (Some p) → (k : ℕ) → x ≤ k → k / 86400 < p → ¬ InBoth P Q k
@@ -48,6 +51,9 @@ carry-on P Q x p none least k from below is =
 
 -- the upper number of x is in P, and there is a lower one from that of x on
 pub carry-here : (P Q : ℕ → Type 0) (x p u : ℕ) → u < 86400 → p ≡ x / 86400 → P p → IsLeastFrom Q (x % 86400) (Some u) → IsLeastFrom (InBoth P Q) x (Some (p * 86400 + u))
-carry-here P Q x p u small same upper (low, lower, least) =
-    (omega arith, joined P Q p u small upper lower, λ k from below is.
-    least (k % 86400) (omega arith) (omega arith) is.1)
+carry-here P Q x p u small same upper (low, lower, least) = (
+  omega arith,
+  joined P Q p u small upper lower,
+  λ k from below is.
+      least (k % 86400) (omega arith) (omega arith) is.1,
+)

@@ -36,9 +36,9 @@ no_date_before s low y m from day within small gap next d year is found above be
     elim (cases_lt (place year d.month d.day) (place y m from)) [
       | inl lt ↦ gap d year is found above lt
       | inr ge ↦
-        let days = days_in_month_bounds d.year d.month in
-        let between : (from ≤ d.day) × (d.day < day) = omega (arith, d.day_in, d.month_in) in
-        next.2 d.day between.0 between.1 found.day
+          let days = days_in_month_bounds d.year d.month in
+          let between : (from ≤ d.day) × (d.day < day) = omega (arith, d.day_in, d.month_in) in
+          next.2 d.day between.0 between.1 found.day
     ]
 
 -- nor has a month that ends before the next day in the set
@@ -47,11 +47,11 @@ no_date_past s low y m from day within gap next short d year is found above belo
     elim (cases_lt (place year d.month d.day) (place y m from)) [
       | inl lt ↦ gap d year is found above lt
       | inr ge ↦
-        let days = days_in_month_bounds d.year d.month in
-        let same : (year ≡ y) × (d.month ≡ m) × (from ≤ d.day) = omega (arith, d.day_in, d.month_in) in
-        let same_year : d.year ≡ pos y = is ∙ ap pos same.0 in
-        let within_month : d.day ≤ days_in_month (pos y) m = rw (same_year, same.1) at d.day_in.1 in
-        next.2 d.day same.2 (omega (arith, within_month)) found.day
+          let days = days_in_month_bounds d.year d.month in
+          let same : (year ≡ y) × (d.month ≡ m) × (from ≤ d.day) = omega (arith, d.day_in, d.month_in) in
+          let same_year : d.year ≡ pos y = is ∙ ap pos same.0 in
+          let within_month : d.day ≤ days_in_month (pos y) m = rw (same_year, same.1) at d.day_in.1 in
+          next.2 d.day same.2 (omega (arith, within_month)) found.day
     ]
 
 -- nor has a day of another weekday
@@ -60,13 +60,13 @@ no_date_on s low y m date within is_y is_m gap apart d year is found above below
     elim (cases_lt (place year d.month d.day) (place y m date.day)) [
       | inl lt ↦ gap d year is found above lt
       | inr ge ↦
-        let days = days_in_month_bounds d.year d.month in
-        let last = days_in_month_bounds date.year date.month in
-        let same : (year ≡ y) × (d.month ≡ m) × (d.day ≡ date.day) = omega (arith, d.day_in, d.month_in, date.day_in) in
-        let same_year : d.year ≡ date.year = is ∙ ap pos same.0 ∙ sym is_y in
-        let same_month : d.month ≡ date.month = same.1 ∙ sym is_m in
-        let number : epoch_day d ≡ epoch_day date = epoch_day_same d date same_year same_month same.2 in
-        apart (subst (λ (n : ℤ). holds s.weekday ((weekday_number n + 1) % 7) ≡ true) number found.weekday)
+          let days = days_in_month_bounds d.year d.month in
+          let last = days_in_month_bounds date.year date.month in
+          let same : (year ≡ y) × (d.month ≡ m) × (d.day ≡ date.day) = omega (arith, d.day_in, d.month_in, date.day_in) in
+          let same_year : d.year ≡ date.year = is ∙ ap pos same.0 ∙ sym is_y in
+          let same_month : d.month ≡ date.month = same.1 ∙ sym is_m in
+          let number : epoch_day d ≡ epoch_day date = epoch_day_same d date same_year same_month same.2 in
+          apart (subst (λ (n : ℤ). holds s.weekday ((weekday_number n + 1) % 7) ≡ true) number found.weekday)
     ]
 
 -- the date that ends the search in a month
@@ -92,13 +92,13 @@ first_behind s a b c high top d gap next low up first =
       from = omega arith;
       below = omega arith;
       least = λ e year is found from below.
-        elim (cases_lt (place year e.month e.day) b) [
-          | inl lt ↦ gap e year is found from lt
-          | inr ge ↦ elim (cases_lt (place year e.month e.day) c) [
-            | inl lt ↦ next e year is found ge lt
-            | inr from_c ↦ first.least e year is found from_c below
-          ]
-        ];
+          elim (cases_lt (place year e.month e.day) b) [
+            | inl lt ↦ gap e year is found from lt
+            | inr ge ↦ elim (cases_lt (place year e.month e.day) c) [
+              | inl lt ↦ next e year is found ge lt
+              | inr from_c ↦ first.least e year is found from_c below
+            ]
+          ];
     }
 
 -- a date that is earlier has a smaller place
@@ -132,9 +132,9 @@ place-le a b x y is_x is_y le =
         | inl earlier ↦ let below = place-earlier a b x y is_x is_y earlier in omega arith
         | inr (inl later) ↦ absurd (let above = epoch_day-lt b a later in omega (arith, signed_arith, above))
         | inr (inr (year, month, day)) ↦
-          let same : pos x ≡ pos y = sym is_x ∙ year ∙ is_y in
-          let equal : x ≡ y = cc in
-          omega arith
+            let same : pos x ≡ pos y = sym is_x ∙ year ∙ is_y in
+            let equal : x ≡ y = cc in
+            omega arith
       ]
       | inr ge ↦ ge
     ]
@@ -180,13 +180,15 @@ pub day_found : (s : Schedule) (start date : Date) (n high : ℕ) → epoch_day 
 day_found s start date n high numbered first =
     let begun = year_of start n numbered in
     let ordered = epoch_day-le start date _ first.year begun first.is_year first.from in
-    let number : epoch_day date ≡ pos (unsigned_abs (epoch_day date)) = not_negative (epoch_day date) (omega (arith, signed_arith, ordered, numbered)) in
-    (omega (arith, signed_arith, ordered, numbered, number), record { date = date; numbered = number; found = first.found },
-    λ k from below h.
-    let year = year_of h.date k h.numbered in
-    let above = place-le start h.date _ _ begun year (omega (arith, signed_arith, numbered, h.numbered)) in
-    let under = place-lt h.date date _ _ year first.is_year (omega (arith, signed_arith, number, h.numbered)) in
-    first.least h.date _ year h.found above under)
+    let number : epoch_day date ≡ pos (unsigned_abs (epoch_day date)) = not_negative (epoch_day date) (omega (arith, signed_arith, ordered, numbered)) in (
+      omega (arith, signed_arith, ordered, numbered, number),
+      record { date = date; numbered = number; found = first.found },
+      λ k from below h.
+          let year = year_of h.date k h.numbered in
+          let above = place-le start h.date _ _ begun year (omega (arith, signed_arith, numbered, h.numbered)) in
+          let under = place-lt h.date date _ _ year first.is_year (omega (arith, signed_arith, number, h.numbered)) in
+          first.least h.date _ year h.found above under,
+    )
 
 pub day_none : (s : Schedule) (start : Date) (n : ℕ) → epoch_day start ≡ pos n → HasNoDate s (place (unsigned_abs start.year) start.month start.day) (place 10000 0 0) → IsLeastFrom (DayIn s) n None
 day_none s start n numbered none k from h =

@@ -39,9 +39,10 @@ pieces-cut c text before after is =
     let test : nat_lt (position_or_len (λ b. nat_eq b c) text) (length text) ≡ true = told.0 in
     let found : position_or_len (λ b. nat_eq b c) text < length text = grind (arith, nat_tests) in
     let is_before : before ≡ before_first (λ b. nat_eq b c) text = ap (λ x. x.0) told.1 in
-    let is_after : after ≡ after_first (λ b. nat_eq b c) text = ap (λ x. x.1) told.1 in
-    (rw (is_before, is_after) (slice_split_first (λ b. nat_eq b c) text 0 found),
-    rw is_after (omega (arith, length-drop (position_or_len (λ b. nat_eq b c) text + 1) text)))
+    let is_after : after ≡ after_first (λ b. nat_eq b c) text = ap (λ x. x.1) told.1 in (
+      rw (is_before, is_after) (slice_split_first (λ b. nat_eq b c) text 0 found),
+      rw is_after (omega (arith, length-drop (position_or_len (λ b. nat_eq b c) text + 1) text)),
+    )
 
 first_fails : (p : ℕ → Bool) (x : ℕ) (xs : List ℕ) → length (x ∷ xs) ≤ position_or_len p (x ∷ xs) → (p x ≡ false) × (length xs ≤ position_or_len p xs)
 first_fails p x xs h = grind arith

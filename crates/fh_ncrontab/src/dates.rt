@@ -32,7 +32,9 @@ impl Schedule {
         requires day { IsInRange 1 31 day }
         ensures { IsLeastDate self.now (place year month day) (place 10000 0 0) result }
     {
-        if self.month.holds(month) && let Some(date) = self.date_in_month(year, month, day) {
+        if self.month.holds(month)
+            && let Some(date) = self.date_in_month(year, month, day)
+        {
             return Some(date);
         }
         if let Some(date) = self.date_in_year(year, month + 1) {
@@ -53,7 +55,9 @@ impl Schedule {
         ensures { IsLeastDate self.now (place year month 0) (place (year + 1) 0 0) result }
     {
         for month in month..13 {
-            if self.month.holds(month) && let Some(date) = self.date_in_month(year, month, 1) {
+            if self.month.holds(month)
+                && let Some(date) = self.date_in_month(year, month, 1)
+            {
                 return Some(date);
             }
         }

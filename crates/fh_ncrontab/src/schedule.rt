@@ -20,7 +20,9 @@ pub struct Schedule {
 }
 
 const MINUTE: u64 = 60;
+
 const HOUR: u64 = 3600;
+
 const DAY: u64 = 86400;
 
 impl Schedule {

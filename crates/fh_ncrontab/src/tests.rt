@@ -1,13 +1,20 @@
+ghost use Rattle.std.specs.Prelude.{◌≡◌, Some};
+
 use crate::{CronFault, Field, FieldFault, Schedule};
 use jiff_core::civil::Date;
 use std::process::Abort;
 use std::test::Fail;
 
 const BAD_SECOND: CronFault = CronFault::BadField { field: 0 };
+
 const BAD_MINUTE: CronFault = CronFault::BadField { field: 1 };
+
 const BAD_HOUR: CronFault = CronFault::BadField { field: 2 };
+
 const BAD_DAY: CronFault = CronFault::BadField { field: 3 };
+
 const BAD_MONTH: CronFault = CronFault::BadField { field: 4 };
+
 const BAD_WEEKDAY: CronFault = CronFault::BadField { field: 5 };
 
 const REFUSED: [(&str, CronFault); 48] = [
@@ -116,7 +123,11 @@ const NEXT: [(&str, i64, Option<i64>); 21] = [
 fn the_next_second_is_the_least_one(rt: HostRuntime) -> Result<(), Fail> {
     for (text, second, next) in NEXT {
         assert!(rt; second >= 0 && second <= 253402300799);
-        assert_eq!(rt; Schedule::read(text)?.next_after(second), next, "{text} after {second}");
+        assert_eq!(rt;
+            Schedule::read(text)?.next_after(second),
+            next,
+            "{text} after {second}"
+        );
     }
     Ok(())
 }
@@ -145,35 +156,35 @@ fn a_plain_scan_finds_the_same_second(rt: HostRuntime) -> Result<(), Fail> {
     ];
     for text in texts {
         let schedule = Schedule::read(text)?;
-        // From 2028-02-28T21:40:00, over the leap day and the end of the month.
-        let mut next: Option<u64> = None;
-        for second in (1835386800 - 84000..1835386800 + 96000).rev() {
-            let second: u64 = second;
+        // From 2028-02-28T21:40:00 to 2028-03-01T00:20:00, and back.
+        let mut next: Option<i64> = None;
+        for second in (1835386800..1835482800u64).rev() {
             let given = schedule.next_after(second as i64);
-            if let Some(next) = next {
-                assert_eq!(rt; given, Some(next as i64), "{text} after {second}");
+            if next.is_some() {
+                assert_eq!(rt; given, next, "{text} after {second}");
             }
             if is_in(&rt, &schedule, second) {
-                next = Some(second);
+                next = Some(second as i64);
             }
         }
     }
     Ok(())
 }
 
+// The masks of a schedule give it back, whichever it is: the clause is proved.
+fn carried(schedule: &Schedule) -> Option<Schedule>
+    ensures { result ≡ Some schedule.now }
+{
+    Schedule::of_masks(schedule.masks())
+}
+
 #[test]
 fn masks_carry_a_schedule(rt: HostRuntime) -> Result<(), Fail> {
     let schedule = Schedule::read("0,59 */30 9-11 1,31 12 SUN,SAT")?;
-    let masks = [
-        576460752303423489,
-        1073741825,
-        3584,
-        2147483650,
-        4096,
-        65,
-    ];
+    let masks = [576460752303423489, 1073741825, 3584, 2147483650, 4096, 65];
     assert_eq!(rt; schedule.masks(), masks);
     assert_eq!(rt; Schedule::of_masks(masks), Some(schedule));
+    assert_eq!(rt; carried(&schedule), Some(schedule));
     assert_eq!(rt; Schedule::of_masks([1, 1, 1, 1, 2, 1]), None, "day 0");
     assert_eq!(rt; Schedule::of_masks([1, 1, 1, 2, 2, 128]), None, "weekday 7");
     assert_eq!(rt; Schedule::of_masks([1, 1, 0, 2, 2, 1]), None, "no hour");

@@ -7,18 +7,22 @@ use Rattle.fh_ncrontab.proofs.PartLemmas.{first_fault-ok, first_fault-err, first
 use Rattle.fh_ncrontab.proofs.field.Field.read.Goals as goal
 
 pub loop-rest-init : goal.loop-rest-init
-loop-rest-init g c =
-    (refl, λ n. start_of g.row.LO g.row.HI (parts c.args.text.now) n,
-    λ n held. absurd (let none : holds 0 n ≡ false = holds-zero n in cc), λ never. absurd cc)
+loop-rest-init g c = (
+  refl,
+  λ n. start_of g.row.LO g.row.HI (parts c.args.text.now) n,
+  λ n held. absurd (let none : holds 0 n ≡ false = holds-zero n in cc),
+  λ never. absurd cc,
+)
 
 pub loop-rest-preserved : goal.loop-rest-preserved
 loop-rest-preserved g c =
     let left = ap (λ r. pieces_left 44 (option_copied r)) c.in-Some.is ∙ c.first_piece.ensures.pieces in
-    let ok = c.in_ok-read.ensures in
-    (c.loop-rest.invariant.0 ∙ ap (first_fault g.row.LO g.row.HI) left ∙ first_fault-ok _ _ _ _ _ ok.value,
-    λ n. c.loop-rest.invariant.1 n ∙ some_part_has-step _ _ _ _ _ _ _ _ n ok.value left (c.added_to-mask.ensures n),
-    within-step _ _ _ _ _ ok.first ok.last c.added_to-mask.ensures c.loop-rest.invariant.2,
-    λ _. not_empty _ _ _ ok.order c.added_to-mask.ensures)
+    let ok = c.in_ok-read.ensures in (
+      c.loop-rest.invariant.0 ∙ ap (first_fault g.row.LO g.row.HI) left ∙ first_fault-ok _ _ _ _ _ ok.value,
+      λ n. c.loop-rest.invariant.1 n ∙ some_part_has-step _ _ _ _ _ _ _ _ n ok.value left (c.added_to-mask.ensures n),
+      within-step _ _ _ _ _ ok.first ok.last c.added_to-mask.ensures c.loop-rest.invariant.2,
+      λ _. not_empty _ _ _ ok.order c.added_to-mask.ensures,
+    )
 
 pub returns-in_err-read-clause-fault : goal.returns-in_err-read-clause-fault
 returns-in_err-read-clause-fault g c =

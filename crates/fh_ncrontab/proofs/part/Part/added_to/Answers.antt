@@ -12,11 +12,11 @@ loop-n-preserved c k =
     let before = c.loop-n.invariant k in
     elim c.if-n-self-eq0.branch [
       | then-n-self-eq0 w ↦
-        let yes : part_has c.args.self n ≡ true = part_has-yes c.args.self n (omega arith) (omega arith) w.if-n-self-eq0.true in
-        ap (λ b. holds b k) w.bits-is ∙ holds-set c.loop-n.bits n k (omega arith) ∙ ap (λ b. b || nat_eq k n) before
-        ∙ step_yes (holds c.args.mask k) (part_has c.args.self k) k n (λ e. ap (part_has c.args.self) e ∙ yes)
+          let yes : part_has c.args.self n ≡ true = part_has-yes c.args.self n (omega arith) (omega arith) w.if-n-self-eq0.true in
+          ap (λ b. holds b k) w.bits-is ∙ holds-set c.loop-n.bits n k (omega arith) ∙ ap (λ b. b || nat_eq k n) before
+          ∙ step_yes (holds c.args.mask k) (part_has c.args.self k) k n (λ e. ap (part_has c.args.self) e ∙ yes)
       | else-n-self-eq0 w ↦
-        let no : part_has c.args.self n ≡ false = part_has-no c.args.self n w.if-n-self-eq0.false in
-        ap (λ b. holds b k) w.bits-is ∙ before
-        ∙ step_no (holds c.args.mask k) (part_has c.args.self k) k n (λ e. ap (part_has c.args.self) e ∙ no)
+          let no : part_has c.args.self n ≡ false = part_has-no c.args.self n w.if-n-self-eq0.false in
+          ap (λ b. holds b k) w.bits-is ∙ before
+          ∙ step_no (holds c.args.mask k) (part_has c.args.self k) k n (λ e. ap (part_has c.args.self) e ∙ no)
     ]

@@ -8,10 +8,10 @@ use Rattle.fh_ncrontab.proofs.schedule.Schedule.date_from.Goals.{else-holds-via-
 pub returns-in-Some-date_in_year : goal.returns-in-Some-date_in_year
 returns-in-Some-date_in_year c =
     let rest : HasNoDate c.args.self.now (place c.args.year c.args.month c.args.day) (place c.args.year (c.args.month + 1) 0) =
-      elim c.else-holds.branch [
-        | else-holds-via-else-holds w ↦ no_date_in_month _ _ _ _ c.requires.month.1 (λ yes. let no = sym w.if-holds.ensures ∙ refl in cc no)
-        | else-holds-via-then-holds+in-None-1 w ↦ grind (arith, common_steps)
-      ] in
+    elim c.else-holds.branch [
+      | else-holds-via-else-holds w ↦ no_date_in_month _ _ _ _ c.requires.month.1 (λ yes. let no = sym w.if-holds.ensures ∙ refl in cc no)
+      | else-holds-via-then-holds+in-None-1 w ↦ grind (arith, common_steps)
+    ] in
     first_behind _ _ (place c.args.year (c.args.month + 1) 0) (place c.args.year (c.args.month + 1) 0) _ _ _ rest (no_date_empty _ _) (omega arith) (omega arith) c.in-Some-date_in_year.ensures
 
 pub returns-in-Some-date_in_year-2 : goal.returns-in-Some-date_in_year-2

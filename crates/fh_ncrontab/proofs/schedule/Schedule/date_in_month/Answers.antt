@@ -16,10 +16,12 @@ loop-day-preserved c =
     let date = c.in-Some-date_of.ensures.value in
     let small : c.in-Some.day ≤ 31 = (c.in-Some.ensures.within _ c.in-Some.ensures.least.1).1 in
     let gap : HasNoDate c.args.self.now (place c.args.year c.args.month c.args.day) (place c.args.year c.args.month c.in-Some-date_of.date.day) =
-      rw date.2 (no_date_before _ _ _ _ _ _ c.requires.month.1 small c.loop-day.invariant.2 c.in-Some.ensures.least) in
-    let other : ¬ (holds c.args.self.now.weekday ((weekday_of c.in-Some-date_of.date + 1) % 7) ≡ true) = λ yes. let no = rw c.weekday_number.ensures at (sym c.holds.ensures ∙ c.if-holds.false) in cc no in
-    (omega (arith, c.loop-day.invariant.0, c.in-Some.ensures.least.0), omega (arith, small),
-    rw date.2 at (no_date_on _ _ _ _ c.in-Some-date_of.date c.requires.month.1 date.0 date.1 gap other))
+    rw date.2 (no_date_before _ _ _ _ _ _ c.requires.month.1 small c.loop-day.invariant.2 c.in-Some.ensures.least) in
+    let other : ¬ (holds c.args.self.now.weekday ((weekday_of c.in-Some-date_of.date + 1) % 7) ≡ true) = λ yes. let no = rw c.weekday_number.ensures at (sym c.holds.ensures ∙ c.if-holds.false) in cc no in (
+      omega (arith, c.loop-day.invariant.0, c.in-Some.ensures.least.0),
+      omega (arith, small),
+      rw date.2 at (no_date_on _ _ _ _ c.in-Some-date_of.date c.requires.month.1 date.0 date.1 gap other),
+    )
 
 pub returns-in_default-date_of : goal.returns-in_default-date_of
 returns-in_default-date_of c =
