@@ -1,10 +1,10 @@
 -- The numbers of a part, added one after the other, and the parts of a field, one after the other.
-use Rattle.std.proofs.Common.{◌≡◌, ℕ, zero, suc, ◌+◌, ◌-◌, ◌%◌, ◌<◌, ◌≤◌, List, [], ◌∷◌, length, length-drop, cond, Option, Some, None, Ok, Err, inl, inr, ◌⊎◌, ◌≢◌, Bool, true, false, ◌&&◌, ◌||◌, nat_eq, nat_lt, refl, sym, ap, ◌∙◌, arith}
+use Rattle.std.proofs.Common.{◌≡◌, ℕ, ◌+◌, ◌-◌, ◌%◌, ◌<◌, ◌≤◌, List, [], ◌∷◌, length, length-drop, cond, Some, None, Ok, Err, inl, inr, ◌⊎◌, ◌≢◌, Bool, true, false, ◌&&◌, ◌||◌, nat_eq, nat_lt, refl, sym, ap, ◌∙◌, arith}
 use Rattle.std.proofs.lemmas.Bool.Decides.{nat_tests}
 use Rattle.fh_ncrontab.specs.declared.part.Part.{Part}
 use Rattle.std.specs.List.{position_or_len, before_first, after_first, slice_split, onto_first}
 use Rattle.std.proofs.lemmas.List.Splits.{slice_split_first, slice_split-cons_no}
-use Rattle.fh_ncrontab.specs.Fields.{part_of, part_has, result_has, fault_or, first_fault, some_part_has, cut_at, pieces, pieces_left}
+use Rattle.fh_ncrontab.specs.Fields.{part_of, part_has, result_has, fault_or, first_fault, some_part_has, cut_at, pieces}
 use Rattle.fh_ncrontab.specs.declared.fault.FieldFault.{FieldFault}
 use Rattle.fh_ncrontab.specs.Sets.{holds}
 use Rattle.fh_ncrontab.proofs.SetLemmas.{holds-zero}

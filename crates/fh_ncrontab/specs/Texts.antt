@@ -1,5 +1,5 @@
 -- What the text of a schedule stands for.
-use Rattle.std.specs.Prelude.{◌≡◌, ℕ, ◌<◌, ◌≤◌, Bool, ◌||◌, ◌==◌, nat_lt, if◌then◌else◌, List, [], ◌∷◌, length, filter, slice_index_or, Option, None, Some, option_map, codes}
+use Rattle.std.specs.Prelude.{◌≡◌, ℕ, ◌≤◌, ◌||◌, ◌==◌, nat_lt, if◌then◌else◌, List, [], ◌∷◌, length, filter, slice_index_or, Option, None, Some, option_map, codes}
 use Rattle.std.specs.Option.{option_or}
 use Rattle.fh_ncrontab.specs.declared.fault.FieldFault.{FieldFault}
 use Rattle.fh_ncrontab.specs.declared.fault.FieldFault.TheVariants.{Bad, Backward}

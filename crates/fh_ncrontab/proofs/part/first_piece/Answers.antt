@@ -1,4 +1,3 @@
-use Rattle.std.proofs.Common.{◌≡◌, ℕ, ◌∷◌, sym, ◌∙◌}
 use Rattle.fh_ncrontab.proofs.PartLemmas.{pieces-cut, pieces-whole}
 use Rattle.fh_ncrontab.proofs.part.first_piece.Goals as goal
 

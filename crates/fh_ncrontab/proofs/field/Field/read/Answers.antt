@@ -1,7 +1,7 @@
-use Rattle.std.proofs.Common.{◌≡◌, ◌≢◌, ℕ, ◌≤◌, ◌||◌, List, ◌∷◌, Some, None, true, false, refl, sym, ap, ◌∙◌, option_copied, arith}
+use Rattle.std.proofs.Common.{◌≡◌, ◌||◌, false, refl, sym, ap, ◌∙◌, option_copied}
 use Rattle.std.proofs.lemmas.Result.{err_from_is_err_and}
 use Rattle.fh_ncrontab.specs.Sets.{holds}
-use Rattle.fh_ncrontab.specs.Fields.{IsFieldOf, first_fault, some_part_has, parts, pieces_left}
+use Rattle.fh_ncrontab.specs.Fields.{first_fault, some_part_has, parts, pieces_left}
 use Rattle.fh_ncrontab.proofs.SetLemmas.{holds-zero}
 use Rattle.fh_ncrontab.proofs.PartLemmas.{first_fault-ok, first_fault-err, first_fault-none, some_part_has-step, some_part_has-none, within-step, not_empty, start_of}
 use Rattle.fh_ncrontab.proofs.field.Field.read.Goals as goal

@@ -1,4 +1,4 @@
-use Rattle.std.proofs.Common.{◌≡◌, ◌≢◌, ℕ, ◌+◌, ◌≤◌, ◌||◌, List, length, Option, None, Some, true, option_copied, IsNone}
+use Rattle.std.proofs.Common.{◌≡◌, ◌≢◌, ℕ, ◌≤◌, ◌||◌, true, option_copied, IsNone}
 use Rattle.fh_ncrontab.specs.Sets.{holds}
 use Rattle.fh_ncrontab.specs.Fields.{first_fault, some_part_has, parts, pieces_left, length_left}
 use Rattle.fh_ncrontab.proofs.field.Field.read.Given as goal

@@ -1,4 +1,4 @@
-use Rattle.std.proofs.Common.{◌≡◌, ℕ, ◌+◌, ◌≤◌, ◌<◌, ◌||◌, ◌&&◌, nat_lt, nat_eq, true, false, ap, sym, ◌∙◌, arith}
+use Rattle.std.proofs.Common.{◌≡◌, ◌||◌, nat_eq, true, false, ap, ◌∙◌, arith}
 use Rattle.fh_ncrontab.specs.Fields.{part_has}
 use Rattle.fh_ncrontab.specs.Sets.{holds}
 use Rattle.fh_ncrontab.proofs.SetLemmas.{holds-set}
