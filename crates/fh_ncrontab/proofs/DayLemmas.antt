@@ -1,5 +1,5 @@
 -- Dates by their places and by their numbers: where no date of a schedule lies, and the least one.
-use Rattle.std.proofs.Common.{◌≡◌, ℕ, ◌+◌, ◌%◌, ◌<◌, ◌≤◌, inl, inr, true, Some, None, refl, sym, ap, subst, ◌∙◌, arith, rules, ℤ, pos, negsuc, ◌<ℤ◌, ◌≤ℤ◌, unsigned_abs}
+use Rattle.std.proofs.Common.{◌≡◌, ℕ, ◌+◌, ◌%◌, ◌<◌, ◌≤◌, inl, inr, Bool, true, false, ◌&&◌, Some, None, refl, sym, ap, subst, ◌∙◌, arith, rules, ℤ, pos, negsuc, ◌<ℤ◌, ◌≤ℤ◌, unsigned_abs}
 use Rattle.std.proofs.lemmas.Bool.{cases_lt}
 use Rattle.std.proofs.lemmas.Int.{by_lt_z}
 use Rattle.jiff_core.specs.declared.civil.date.Date.{Date}
@@ -11,6 +11,14 @@ use Rattle.jiff_core.proofs.DateLemmas.{IsEarlier, epoch_day-lt, epoch_day_same,
 use Rattle.fh_ncrontab.specs.declared.schedule.Schedule.{Schedule}
 use Rattle.fh_ncrontab.specs.Sets.{holds, IsLeastFrom, IsNextIn}
 use Rattle.fh_ncrontab.specs.Dates.{DayIn, place, HasNoDate, IsFirstDate}
+
+pub both_right : (a b : Bool) → (a && b) ≡ true → b ≡ true
+both_right true b h = h
+both_right false b h = absurd cc
+
+pub both_hold : (a b : Bool) → a ≡ true → b ≡ true → (a && b) ≡ true
+both_hold true b h k = k
+both_hold false b h k = absurd cc
 
 -- months begin with day 1, and years with month 1
 pub no_day_zero : (s : Schedule) (y m : ℕ) → HasNoDate s (place y m 0) (place y m 1)

@@ -21,9 +21,6 @@ step_no m h k n other = grind (arith, nat_tests)
 pub part_has-yes : (p : Part) (n : ℕ) → p.first ≤ n → n ≤ p.last → (n - p.first) % p.step ≡ 0 → part_has p n ≡ true
 part_has-yes p n low high even = grind (arith, nat_tests)
 
-pub part_has-no : (p : Part) (n : ℕ) → (((n - p.first) % p.step ≡ 0) → ⊥) → part_has p n ≡ false
-part_has-no p n odd = grind (arith, nat_tests)
-
 cut_told : (t : Bool) (x y : List ℕ × List ℕ) → Some x ≡ cond t (Some y) None → (t ≡ true) × (x ≡ y)
 cut_told true x y is = (refl, cc)
 cut_told false x y is = absurd cc

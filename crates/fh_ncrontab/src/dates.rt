@@ -1,5 +1,5 @@
 // The search for the next day: within a month, over the months of a year, over the years.
-ghost use Rattle.std.specs.Prelude.{◌≡◌, ◌+◌, ◌*◌, ◌%◌, ◌<◌, ◌≤◌, pos, unsigned_abs, IfSome, IfNone, IsTrue};
+ghost use Rattle.std.specs.Prelude.{◌≡◌, ◌+◌, ◌*◌, ◌%◌, ◌<◌, ◌≤◌, ◌&&◌, pos, unsigned_abs, IfSome, IfNone, IsTrue};
 ghost use Rattle.std.specs.Int.{IsInRange};
 ghost use Rattle.jiff_core.specs.Calendar.{days_in_month};
 ghost use Rattle.jiff_core.specs.Date.{epoch_day, weekday_of};
@@ -77,12 +77,20 @@ impl Schedule {
             let Some(date) = date_of(year, month, day) else {
                 return None;
             };
-            if self.weekday.holds(weekday_number(date)) {
+            if self.has_day(date) {
                 return Some(date);
             }
             from = day + 1;
         }
         None
+    }
+
+    // Whether both day fields hold: the day of the month and the day of the week.
+    fn has_day(&self, date: Date) -> bool
+        ensures { result ≡ (holds self.now.day date.day
+            && holds self.now.weekday ((weekday_of date + 1) % 7)) }
+    {
+        self.day.holds(date.day) && self.weekday.holds(weekday_number(date))
     }
 }
 

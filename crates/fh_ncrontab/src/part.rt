@@ -47,11 +47,18 @@ impl Part {
     {
         let mut bits = mask;
         for n in self.first..self.last + 1 {
-            if (n - self.first) % self.step == 0 {
+            if self.has(n) {
                 bits |= 1 << n;
             }
         }
         bits
+    }
+
+    fn has(self, n: u8) -> bool
+        requires { 1 ≤ self.step }
+        ensures { result ≡ part_has self n }
+    {
+        self.first <= n && n <= self.last && (n - self.first) % self.step == 0
     }
 }
 
