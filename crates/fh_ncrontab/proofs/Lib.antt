@@ -1,0 +1,4 @@
+pub mod CarryLemmas
+pub mod DayLemmas
+pub mod PartLemmas
+pub mod SetLemmas
