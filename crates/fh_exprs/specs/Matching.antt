@@ -36,7 +36,6 @@ pub record IsTail (spots : List Spot) (name rest : List ℕ) (texts : List (List
   pub one_each : length texts ≡ length spots
   pub characters : AllByRecursion IsFilledText texts
   pub whole : name ≡ rest ++ spelled spots [] texts
-  pub utf8 : IsUtf8 rest
 
 -- no way to end with these spots leaves more before them, or as much and greater lengths
 pub record IsGreatestTail (spots : List Spot) (name rest : List ℕ) (texts : List (List ℕ)) : Type 0 where
@@ -52,7 +51,6 @@ pub record EndsAs (spots : List Spot) (name rest : List ℕ) (pairs : List (List
 -- the text is cut round the last place of `before` that has a character behind it
 pub record IsLastCut (text before front behind : List ℕ) : Type 0 where
   pub whole : text ≡ front ++ (before ++ behind)
-  pub utf8 : IsUtf8 front
   pub filled : IsFilledText behind
   pub last : (other more : List ℕ) → IsUtf8 other → more ≢ [] → text ≡ other ++ (before ++ more)
     → length other ≤ length front

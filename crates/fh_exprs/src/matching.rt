@@ -100,8 +100,9 @@ fn split_last<'t>(text: &'t str, before: &str) -> Option<(&'t str, &'t str)>
 {
     let mut shorter = text.chars();
     shorter.next_back()?;
-    let at = shorter.as_str().rfind(before)?;
-    let (front, behind) = text.split_at(at);
-    let behind = behind.strip_prefix(before)?;
+    let shorter = shorter.as_str();
+    let at = shorter.rfind(before)?;
+    let (front, _) = shorter.split_at(at);
+    let (_, behind) = text.split_at(at + before.len());
     Some((front, behind))
 }

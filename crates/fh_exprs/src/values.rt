@@ -23,6 +23,7 @@ impl Values {
     ghost use Rattle.fh_exprs.specs.Values.{value_of, found_text, in_message};
 
     /// The text that the name stands for.
+    #[tactic(auto, unfolding(crate::specs::Values::value_of))]
     pub(crate) fn value(&self, alloc: Global, name: &str) -> Result<Text, ExprFault>
         ensures { Gives (λ t. t) result (value_of self.now name.now) }
     {
