@@ -29,7 +29,7 @@ by_chars x more shorter cx (m ∷ ms) cs c ex em es ne e =
     let part = init_part cx m ms cs c (encodes_same (cx ++ (m ∷ ms)) (cs ++ (c ∷ [])) (left ∙ e ∙ sym right)) in
     (encodes part.0, sym es ∙ ap encodes part.1 ∙ encodes-append cx part.0 ∙ ap (λ t. t ++ encodes part.0) ex)
 
-rest_utf8 : (text x more : List ℕ) → IsUtf8 text → IsUtf8 x → text ≡ x ++ more → IsUtf8 more
+pub rest_utf8 : (text x more : List ℕ) → IsUtf8 text → IsUtf8 x → text ≡ x ++ more → IsUtf8 more
 rest_utf8 text x more whole front e =
     let long : length text ≡ length x + length more = ap length e ∙ length-append x more in
     let cut : take (length x) text ≡ x = ap (take (length x)) e ∙ take_at x more (length x) refl in

@@ -1,6 +1,6 @@
 -- The greatest reading, built from the right.
 use Rattle.std.proofs.Common.{◌≡◌, ◌≢◌, ℕ, zero, suc, ◌+◌, ◌<◌, ◌≤◌, List, [], ◌∷◌, ◌++◌, length, get_or, map, take, drop, ◌-◌, ap, sym, ◌∙◌, refl, subst, arith, append_assoc, append-nil, length-append}
-use Rattle.std.specs.Prelude.{reverse}
+use Rattle.std.specs.Prelude.{reverse, Option, Some, None, MatchOption}
 use Rattle.std.specs.List.{AllByRecursion}
 use Rattle.std.specs.Str.{IsUtf8}
 use Rattle.std.specs.Ordering.{nat_cmp}
@@ -182,6 +182,16 @@ no_tail_no_reading first others name [] none reading = absurd (let h = reading.o
 no_tail_no_reading first others name (text ∷ texts) none reading =
     none (first.0 ++ text) texts (reading_behind first others name text texts reading)
 
+pub front_reads : (first : Spot) (others : List Spot) (name rest text : List ℕ) (pairs : List (List ℕ × List ℕ)) → EndsAs others name rest pairs
+    → rest ≡ first.0 ++ text → IsFilledText text → ReadsAs (layout_of (first ∷ others) []) name (reverse (pairs ++ (first.1, text) ∷ []))
+front_reads first others name rest text pairs ends e filled =
+    let back : reverse (pairs ++ (first.1, text) ∷ []) ≡ (first.1, text) ∷ reverse pairs = reverse-append pairs ((first.1, text) ∷ []) in
+    record {
+      names = ap (map (λ p. p.0)) back ∙ ap (λ ns. first.1 ∷ ns) ends.names;
+      texts = subst (λ (ps : List (List ℕ × List ℕ)). IsGreatestReading (layout_of (first ∷ others) []) name (map (λ p. p.1) ps)) (sym back)
+        (whole_reading first others name rest text (map (λ p. p.1) (reverse pairs)) ends.texts e filled)
+    }
+
 -- the plain text at the end
 pub spelled_last : (spots : List Spot) (last : List ℕ) (texts : List (List ℕ)) → spelled spots last texts ≡ spelled spots [] texts ++ last
 spelled_last [] last texts = refl
@@ -216,3 +226,14 @@ reads_with_last spots last front name pairs e reads = record {
     greatest = λ others reading. reads.texts.greatest others (without_last spots last front name others e reading)
   }
 }
+
+pub answer_with_last : {V : Type 0} (items : V → List (List ℕ × List ℕ)) (spots : List Spot) (last front name : List ℕ) → name ≡ front ++ last
+    → (found : Option V)
+    → MatchOption found ((texts : List (List ℕ)) → IsReading (layout_of spots []) front texts → ⊥) (λ v. ReadsAs (layout_of spots []) front (items v))
+    → MatchOption found ((texts : List (List ℕ)) → IsReading (layout_of spots last) name texts → ⊥) (λ v. ReadsAs (layout_of spots last) name (items v))
+answer_with_last items spots last front name e None none = λ texts reading. none texts (without_last spots last front name texts e reading)
+answer_with_last items spots last front name e (Some v) reads = reads_with_last spots last front name (items v) e reads
+
+pub other_end : (spots : List Spot) (last name : List ℕ) → ((front : List ℕ) → name ≢ front ++ last)
+    → (texts : List (List ℕ)) → IsReading (layout_of spots last) name texts → ⊥
+other_end spots last name none texts reading = none (spelled spots [] texts) (reading.whole ∙ spelled_last spots last texts)

@@ -4,9 +4,9 @@
 //! that leaves the text behind it a character: so each text ends as far to the right as any reading
 //! lets it, and the first is the longest, then the second, and so on.
 
-ghost use Rattle.std.specs.Prelude.{◌≡◌, [], List, ℕ, IfOk, MatchOption};
+ghost use Rattle.std.specs.Prelude.{◌≡◌, ◌≢◌, ◌++◌, [], List, ℕ, IfOk, MatchOption};
 ghost use Rattle.fh_exprs.specs.Layout.{Layout, layout_of};
-ghost use Rattle.fh_exprs.specs.Matching.{IsReading, ReadsAs, IsTail, EndsAs, IsLastCut, HasNoCut};
+ghost use Rattle.fh_exprs.specs.Matching.{IsFilledText, IsReading, ReadsAs, IsTail, EndsAs, IsLastCut, HasNoCut};
 
 use crate::fault::NoMemory;
 use crate::form::Place;
@@ -47,15 +47,25 @@ fn read_front(
     let Some(rest) = read_later(alloc, others, name, &mut pairs)? else {
         return Ok(None);
     };
-    let Some(text) = rest.strip_prefix(first.0.as_str()) else {
+    let Some(text) = text_behind(rest, first.0.as_str()) else {
         return Ok(None);
     };
-    if text.is_empty() {
-        return Ok(None);
-    }
     pairs.push(pair_of(alloc, first, text)?)?;
     pairs.reverse();
     Ok(Some(pairs))
+}
+
+// What stands behind the plain text `before`, if that is at least one character.
+fn text_behind<'t>(text: &'t str, before: &str) -> Option<&'t str>
+    ensures { MatchOption result ((more : List ℕ) → more ≢ [] → text.now ≢ before.now ++ more)
+        (λ behind. (text.now ≡ before.now ++ behind.now) × IsFilledText behind.now) }
+{
+    let behind = text.strip_prefix(before)?;
+    if behind.is_empty() {
+        None
+    } else {
+        Some(behind)
+    }
 }
 
 // Reads the end of the name by the places, adds their names and texts, the last first, and gives
