@@ -30,5 +30,5 @@ pub use template::Template;
 pub use text::Text;
 pub use values::Values;
 
-//#[cfg(test)]
-//mod tests;
+#[cfg(test)]
+mod tests;
