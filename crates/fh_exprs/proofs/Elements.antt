@@ -14,7 +14,7 @@ use Rattle.fh_exprs.specs.Form.{Standing, outside, behind_close, inside, read_on
 use Rattle.fh_exprs.proofs.Cuts.{eqb-from_ne}
 
 -- a text of which the reading stands at this place
-at_place : (naming : Naming) (layout : Layout) (text : List ℕ) (m n : ℕ) → m ≡ n
+pub at_place : (naming : Naming) (layout : Layout) (text : List ℕ) (m n : ℕ) → m ≡ n
     → read_on naming layout (outside m) text ≡ read_on naming layout (outside n) text
 at_place naming layout text m n e = ap (λ k. read_on naming layout (outside k) text) e
 

@@ -5,3 +5,4 @@ pub mod Elements
 pub mod Order
 pub mod LastCut
 pub mod Readings
+pub mod Writing

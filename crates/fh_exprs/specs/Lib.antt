@@ -4,5 +4,6 @@ pub mod Settings
 pub mod Layout
 pub mod Form
 pub mod Matching
+pub mod Written
 pub mod Json
 pub mod Values

@@ -8,6 +8,7 @@ ghost use Rattle.fh_exprs.specs.Form.{BeginsWith, BeginsWithFault, is_word_byte 
 ghost use Rattle.fh_exprs.specs.Answers.{Gives, Leaves};
 
 use crate::fault::ExprFault;
+use crate::settings::Settings;
 use crate::text::Text;
 use std::alloc::{AllocError, Global};
 use std::marker::Model;
@@ -46,10 +47,24 @@ pub enum Element<'a> {
 }
 
 impl Form {
-    ghost use Rattle.fh_exprs.specs.Form.{reading, blank, with_plain, with_name, name_fault, unless};
+    ghost use Rattle.fh_exprs.specs.Settings.{replaced};
+    ghost use Rattle.fh_exprs.specs.Form.{reading, reading_of, blank, with_plain, with_name, name_fault, unless};
+
+    /// What the text reads as once its settings are replaced.
+    pub fn read_with_settings(
+        alloc: Global,
+        text: &str,
+        settings: &Settings,
+        naming: Naming,
+    ) -> Result<Form, ExprFault>
+        ensures { Gives (λ f. f) result (reading_of naming (replaced settings.now.pairs text.now)) }
+    {
+        let text = settings.replace(alloc, text)?;
+        Form::read(alloc, text.as_str(), naming)
+    }
 
     /// What the text reads as, from the left.
-    pub fn read(alloc: Global, text: &str, naming: Naming) -> Result<Form, ExprFault>
+    fn read(alloc: Global, text: &str, naming: Naming) -> Result<Form, ExprFault>
         ensures { Gives (λ f. f) result (reading naming text.now) }
     {
         let mut form = Form::new(alloc);

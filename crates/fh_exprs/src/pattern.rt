@@ -1,6 +1,6 @@
 //! Patterns: texts with names that a given name is read by.
 
-ghost use Rattle.std.specs.Prelude.{IfOk, MatchOption, List, ℕ};
+ghost use Rattle.std.specs.Prelude.{◌≡◌, Ok, IfOk, MatchOption, List, ℕ};
 ghost use Rattle.fh_exprs.specs.Answers.{Gives};
 
 use crate::fault::{ExprFault, NoMemory};
@@ -29,15 +29,20 @@ impl Model for Pattern {
 impl Pattern {
     ghost use Rattle.fh_exprs.specs.declared.form.Naming.TheVariants.{Distinct};
     ghost use Rattle.fh_exprs.specs.Form.{reading_of};
+    ghost use Rattle.fh_exprs.specs.Written.{written};
     ghost use Rattle.fh_exprs.specs.Settings.{replaced};
     ghost use Rattle.fh_exprs.specs.Matching.{IsReading, ReadsAs};
 
     /// Reads a pattern. The faults are `NoSetting`, `OpenBrace` and `SameName`, and want of memory.
     pub fn read(alloc: Global, text: &str, settings: &Settings) -> Result<Pattern, ExprFault>
-        ensures { Gives (λ p. p) result (reading_of Distinct (replaced settings.now.pairs text.now)) }
+        ensures exact { Gives (λ p. p) result
+            (reading_of Distinct (replaced settings.now.pairs text.now)) }
+
+        // What is read is written so.
+        ensures written { IfOk result
+            (λ p. replaced settings.now.pairs text.now ≡ Ok (written p)) }
     {
-        let text = settings.replace(alloc, text)?;
-        let form = Form::read(alloc, text.as_str(), Naming::Distinct)?;
+        let form = Form::read_with_settings(alloc, text, settings, Naming::Distinct)?;
         Ok(Pattern { form })
     }
 

@@ -1,6 +1,6 @@
 //! Templates: texts with named values.
 
-ghost use Rattle.std.specs.Prelude.{◌≡◌, string_bytes};
+ghost use Rattle.std.specs.Prelude.{◌≡◌, IfOk, Ok, string_bytes};
 ghost use Rattle.fh_exprs.specs.Answers.{Gives};
 
 use crate::fault::ExprFault;
@@ -28,15 +28,23 @@ impl Model for Template {
 impl Template {
     ghost use Rattle.fh_exprs.specs.declared.form.Naming.TheVariants.{Free};
     ghost use Rattle.fh_exprs.specs.Form.{reading_of};
+    ghost use Rattle.fh_exprs.specs.Layout.{Layout};
+    ghost use Rattle.fh_exprs.specs.Written.{written, HasNames};
     ghost use Rattle.fh_exprs.specs.Settings.{replaced};
     ghost use Rattle.fh_exprs.specs.Values.{resolved};
 
     /// Reads a template. The faults are `NoSetting` and `OpenBrace`, and want of memory.
     pub fn read(alloc: Global, text: &str, settings: &Settings) -> Result<Template, ExprFault>
-        ensures { Gives (λ t. t) result (reading_of Free (replaced settings.now.pairs text.now)) }
+        ensures exact { Gives (λ t. t) result (reading_of Free (replaced settings.now.pairs text.now)) }
+
+        // What is read is written so, and what is written so is read.
+        ensures written { IfOk result
+            (λ t. replaced settings.now.pairs text.now ≡ Ok (written t)) }
+        ensures every { (layout : Layout) → HasNames layout
+            → replaced settings.now.pairs text.now ≡ Ok (written layout)
+            → Gives (λ t. t) result (Ok layout) }
     {
-        let text = settings.replace(alloc, text)?;
-        let form = Form::read(alloc, text.as_str(), Naming::Free)?;
+        let form = Form::read_with_settings(alloc, text, settings, Naming::Free)?;
         Ok(Template { form })
     }
 

@@ -100,184 +100,194 @@ fn matched_text(
     Ok(shown)
 }
 
+static RESOLVED: [(&str, &str); 30] = [
+    ("", ""),
+    ("plain", "plain"),
+    ("{Id}", "7"),
+    ("a{Id}b", "a7b"),
+    ("{{Id}}", "{Id}"),
+    ("{{{Id}}}", "{7}"),
+    ("{{}}", "{}"),
+    ("{Id}}}", "7}"),
+    ("é{Id}é", "é7é"),
+    ("%queue%", "orders"),
+    ("%inner%", "%queue%"),
+    ("%brace%", "7"),
+    ("%empty%x", "x"),
+    ("%é%", "accent"),
+    ("100%", "100%"),
+    ("100%%", "100%%"),
+    ("%%queue%", "%%queue%"),
+    ("%%%queue%", "%%orders"),
+    ("a%b", "a%b"),
+    ("%queue%queue%", "ordersqueue%"),
+    ("{name}", "Ann"),
+    ("{n}", "42"),
+    ("{neg}", "-5"),
+    ("{low}", "-9223372036854775808"),
+    ("{big}", "18446744073709551615"),
+    ("{yes}{no}", "truefalse"),
+    ("{o.p.q}", "deep"),
+    ("{o.}", "dot"),
+    ("{text}", "{n}"),
+    (
+        "{rand-guid} {sys.RandGuid} {DateTime} {sys.MethodName}",
+        "G G D M",
+    ),
+];
+
 #[test]
 fn templates_resolve(rt: HostRuntime) -> Result<(), Fail> {
     let alloc = rt.alloc();
     let settings = settings_of(alloc)?;
     let values = values_of(alloc, MESSAGE)?;
-    for (text, want) in [
-        ("", ""),
-        ("plain", "plain"),
-        ("{Id}", "7"),
-        ("a{Id}b", "a7b"),
-        ("{{Id}}", "{Id}"),
-        ("{{{Id}}}", "{7}"),
-        ("{{}}", "{}"),
-        ("{Id}}}", "7}"),
-        ("é{Id}é", "é7é"),
-        ("%queue%", "orders"),
-        ("%inner%", "%queue%"),
-        ("%brace%", "7"),
-        ("%empty%x", "x"),
-        ("%é%", "accent"),
-        ("100%", "100%"),
-        ("100%%", "100%%"),
-        ("%%queue%", "%%queue%"),
-        ("%%%queue%", "%%orders"),
-        ("a%b", "a%b"),
-        ("%queue%queue%", "ordersqueue%"),
-        ("{name}", "Ann"),
-        ("{n}", "42"),
-        ("{neg}", "-5"),
-        ("{low}", "-9223372036854775808"),
-        ("{big}", "18446744073709551615"),
-        ("{yes}{no}", "truefalse"),
-        ("{o.p.q}", "deep"),
-        ("{o.}", "dot"),
-        ("{text}", "{n}"),
-        (
-            "{rand-guid} {sys.RandGuid} {DateTime} {sys.MethodName}",
-            "G G D M",
-        ),
-    ] {
-        let shown = resolved_text(alloc, text, &settings, &values)?;
-        assert_eq!(rt; shown.as_str(), want, "of {text}");
+    for row in &RESOLVED {
+        let shown = resolved_text(alloc, row.0, &settings, &values)?;
+        assert_eq!(rt; shown.as_str(), row.1, "of {}", row.0);
     }
     Ok(())
 }
+
+static FAULTY_TEMPLATES: [(&str, &str); 28] = [
+    ("x{", "OpenBrace 1"),
+    ("x}", "OpenBrace 1"),
+    ("{}", "OpenBrace 0"),
+    ("{Id", "OpenBrace 0"),
+    ("{a{Id}", "OpenBrace 0"),
+    ("{Id}}", "OpenBrace 4"),
+    ("}}{", "OpenBrace 2"),
+    ("é{", "OpenBrace 2"),
+    ("{Id}{}{", "OpenBrace 4"),
+    ("%left%", "OpenBrace 0"),
+    ("%queue%{", "OpenBrace 6"),
+    ("{%empty%}", "OpenBrace 0"),
+    ("%nope%", "NoSetting nope"),
+    ("%queue%-%nope%-%other%-{", "NoSetting nope"),
+    ("{%nope%", "NoSetting nope"),
+    ("{id}", "NoValue id"),
+    ("{ Id }", "NoValue  Id "),
+    ("{o.p.x}", "NoValue o.p.x"),
+    ("{.}", "NoValue ."),
+    ("{a.b}", "NoValue a.b"),
+    ("{missing}{nil}", "NoValue missing"),
+    ("{nil}{missing}", "NotText nil"),
+    ("{f}", "NotText f"),
+    ("{e}", "NotText e"),
+    ("{z}", "NotText z"),
+    ("{huge}", "NotText huge"),
+    ("{list}", "NotText list"),
+    ("{o}", "NotText o"),
+];
 
 #[test]
 fn templates_have_one_first_fault(rt: HostRuntime) -> Result<(), Fail> {
     let alloc = rt.alloc();
     let settings = settings_of(alloc)?;
     let values = values_of(alloc, MESSAGE)?;
-    for (text, want) in [
-        ("x{", "OpenBrace 1"),
-        ("x}", "OpenBrace 1"),
-        ("{}", "OpenBrace 0"),
-        ("{Id", "OpenBrace 0"),
-        ("{a{Id}", "OpenBrace 0"),
-        ("{Id}}", "OpenBrace 4"),
-        ("}}{", "OpenBrace 2"),
-        ("é{", "OpenBrace 2"),
-        ("{Id}{}{", "OpenBrace 4"),
-        ("%left%", "OpenBrace 0"),
-        ("%queue%{", "OpenBrace 6"),
-        ("{%empty%}", "OpenBrace 0"),
-        ("%nope%", "NoSetting nope"),
-        ("%queue%-%nope%-%other%-{", "NoSetting nope"),
-        ("{%nope%", "NoSetting nope"),
-        ("{id}", "NoValue id"),
-        ("{ Id }", "NoValue  Id "),
-        ("{o.p.x}", "NoValue o.p.x"),
-        ("{.}", "NoValue ."),
-        ("{a.b}", "NoValue a.b"),
-        ("{missing}{nil}", "NoValue missing"),
-        ("{nil}{missing}", "NotText nil"),
-        ("{f}", "NotText f"),
-        ("{e}", "NotText e"),
-        ("{z}", "NotText z"),
-        ("{huge}", "NotText huge"),
-        ("{list}", "NotText list"),
-        ("{o}", "NotText o"),
-    ] {
-        let shown = resolved_text(alloc, text, &settings, &values)?;
-        assert_eq!(rt; shown.as_str(), want, "of {text}");
+    for row in &FAULTY_TEMPLATES {
+        let shown = resolved_text(alloc, row.0, &settings, &values)?;
+        assert_eq!(rt; shown.as_str(), row.1, "of {}", row.0);
     }
     Ok(())
 }
+
+static MESSAGES: [(&str, &str); 4] = [
+    ("[1]", "NoValue name"),
+    ("\"name\"", "NoValue name"),
+    ("no json", "NoValue name"),
+    ("{\"name\":\"a\",\"name\":\"b\"}", "b"),
+];
 
 #[test]
 fn a_message_that_is_no_object_has_no_members(rt: HostRuntime) -> Result<(), Fail> {
     let alloc = rt.alloc();
     let settings = settings_of(alloc)?;
-    for (message, want) in [
-        ("[1]", "NoValue name"),
-        ("\"name\"", "NoValue name"),
-        ("no json", "NoValue name"),
-        ("{\"name\":\"a\",\"name\":\"b\"}", "b"),
-    ] {
-        let values = values_of(alloc, message)?;
+    for row in &MESSAGES {
+        let values = values_of(alloc, row.0)?;
         let shown = resolved_text(alloc, "{name}", &settings, &values)?;
-        assert_eq!(rt; shown.as_str(), want, "of {message}");
+        assert_eq!(rt; shown.as_str(), row.1, "of {}", row.0);
     }
     Ok(())
 }
+
+static MATCHED: [(&str, &str, &str); 38] = [
+    ("{name}.{ext}", "a.b.txt", "name=a.b;ext=txt;"),
+    ("{name}.{ext}", "abc", "none"),
+    ("{name}.{ext}", "a.", "none"),
+    ("{name}.{ext}", ".a", "none"),
+    ("", "", ""),
+    ("", "a", "none"),
+    ("abc", "abc", ""),
+    ("abc", "abd", "none"),
+    ("abc", "abcd", "none"),
+    ("{name}", "x", "name=x;"),
+    ("{name}", "", "none"),
+    ("{a}{b}", "xyz", "a=xy;b=z;"),
+    ("{a}{b}", "x", "none"),
+    ("{a}{b}{c}", "wxyz", "a=wx;b=y;c=z;"),
+    ("{a}-{b}", "x-y-z", "a=x-y;b=z;"),
+    ("{a}-{b}", "-y", "none"),
+    ("{a}-{b}", "x-", "none"),
+    ("{a}-{b}", "x--", "a=x;b=-;"),
+    ("{a}-{b}", "--y", "a=-;b=y;"),
+    ("{a}-{b}", "---", "a=-;b=-;"),
+    ("in/{name}", "in/x/y", "name=x/y;"),
+    ("in/{name}", "out/x", "none"),
+    ("in/{name}", "in/", "none"),
+    ("{name}.txt", "a.txt.txt", "name=a.txt;"),
+    ("{name}.txt", ".txt", "none"),
+    ("a{x}", "aab", "x=ab;"),
+    ("{x}a", "aaa", "x=aa;"),
+    ("a{x}a", "aa", "none"),
+    ("a{x}a", "aaa", "x=a;"),
+    ("{x}ab{y}", "abababc", "x=abab;y=c;"),
+    ("{x}ab{y}ab{z}", "abababababc", "x=abab;y=ab;z=c;"),
+    ("{a}{b}", "é", "none"),
+    ("{a}{b}", "éx", "a=é;b=x;"),
+    ("{a}{b}", "éé", "a=é;b=é;"),
+    ("{a}é{b}", "xéyéz", "a=xéy;b=z;"),
+    ("{{{a}}}", "{x}", "a=x;"),
+    ("{{a}}", "{a}", ""),
+    ("%queue%/{name}", "orders/7", "name=7;"),
+];
 
 #[test]
 fn patterns_take_the_greatest_reading(rt: HostRuntime) -> Result<(), Fail> {
     let alloc = rt.alloc();
     let settings = settings_of(alloc)?;
-    for (text, name, want) in [
-        ("{name}.{ext}", "a.b.txt", "name=a.b;ext=txt;"),
-        ("{name}.{ext}", "abc", "none"),
-        ("{name}.{ext}", "a.", "none"),
-        ("{name}.{ext}", ".a", "none"),
-        ("", "", ""),
-        ("", "a", "none"),
-        ("abc", "abc", ""),
-        ("abc", "abd", "none"),
-        ("abc", "abcd", "none"),
-        ("{name}", "x", "name=x;"),
-        ("{name}", "", "none"),
-        ("{a}{b}", "xyz", "a=xy;b=z;"),
-        ("{a}{b}", "x", "none"),
-        ("{a}{b}{c}", "wxyz", "a=wx;b=y;c=z;"),
-        ("{a}-{b}", "x-y-z", "a=x-y;b=z;"),
-        ("{a}-{b}", "-y", "none"),
-        ("{a}-{b}", "x-", "none"),
-        ("{a}-{b}", "x--", "a=x;b=-;"),
-        ("{a}-{b}", "--y", "a=-;b=y;"),
-        ("{a}-{b}", "---", "a=-;b=-;"),
-        ("in/{name}", "in/x/y", "name=x/y;"),
-        ("in/{name}", "out/x", "none"),
-        ("in/{name}", "in/", "none"),
-        ("{name}.txt", "a.txt.txt", "name=a.txt;"),
-        ("{name}.txt", ".txt", "none"),
-        ("a{x}", "aab", "x=ab;"),
-        ("{x}a", "aaa", "x=aa;"),
-        ("a{x}a", "aa", "none"),
-        ("a{x}a", "aaa", "x=a;"),
-        ("{x}ab{y}", "abababc", "x=abab;y=c;"),
-        ("{x}ab{y}ab{z}", "abababababc", "x=abab;y=ab;z=c;"),
-        ("{a}{b}", "é", "none"),
-        ("{a}{b}", "éx", "a=é;b=x;"),
-        ("{a}{b}", "éé", "a=é;b=é;"),
-        ("{a}é{b}", "xéyéz", "a=xéy;b=z;"),
-        ("{{{a}}}", "{x}", "a=x;"),
-        ("{{a}}", "{a}", ""),
-        ("%queue%/{name}", "orders/7", "name=7;"),
-    ] {
-        let shown = matched_text(alloc, text, &settings, name)?;
-        assert_eq!(rt; shown.as_str(), want, "of {text} at {name}");
+    for row in &MATCHED {
+        let shown = matched_text(alloc, row.0, &settings, row.1)?;
+        assert_eq!(rt; shown.as_str(), row.2, "of {} at {}", row.0, row.1);
     }
     Ok(())
 }
+
+static NAMED: [(&str, &str); 16] = [
+    ("{blobTrigger}", "blobTrigger=xy;"),
+    ("{a}{A}", "a=x;A=y;"),
+    ("{a_1}", "a_1=xy;"),
+    ("{a}{a}", "SameName a"),
+    ("{a}{b}{a}{b}", "SameName a"),
+    ("{sys}", "SameName sys"),
+    ("{BlobTrigger}", "SameName BlobTrigger"),
+    ("{a}{a}{", "SameName a"),
+    ("{a-b}", "OpenBrace 0"),
+    ("x{a b}", "OpenBrace 1"),
+    ("{a.b}", "OpenBrace 0"),
+    ("{é}", "OpenBrace 0"),
+    ("{a}{}{a}", "OpenBrace 3"),
+    ("{a}{", "OpenBrace 3"),
+    ("}", "OpenBrace 0"),
+    ("{a-b}%nope%", "NoSetting nope"),
+];
 
 #[test]
 fn patterns_name_each_text_once(rt: HostRuntime) -> Result<(), Fail> {
     let alloc = rt.alloc();
     let settings = settings_of(alloc)?;
-    for (text, want) in [
-        ("{blobTrigger}", "blobTrigger=xy;"),
-        ("{a}{A}", "a=x;A=y;"),
-        ("{a_1}", "a_1=xy;"),
-        ("{a}{a}", "SameName a"),
-        ("{a}{b}{a}{b}", "SameName a"),
-        ("{sys}", "SameName sys"),
-        ("{BlobTrigger}", "SameName BlobTrigger"),
-        ("{a}{a}{", "SameName a"),
-        ("{a-b}", "OpenBrace 0"),
-        ("x{a b}", "OpenBrace 1"),
-        ("{a.b}", "OpenBrace 0"),
-        ("{é}", "OpenBrace 0"),
-        ("{a}{}{a}", "OpenBrace 3"),
-        ("{a}{", "OpenBrace 3"),
-        ("}", "OpenBrace 0"),
-        ("{a-b}%nope%", "NoSetting nope"),
-    ] {
-        let shown = matched_text(alloc, text, &settings, "xy")?;
-        assert_eq!(rt; shown.as_str(), want, "of {text}");
+    for row in &NAMED {
+        let shown = matched_text(alloc, row.0, &settings, "xy")?;
+        assert_eq!(rt; shown.as_str(), row.1, "of {}", row.0);
     }
     Ok(())
 }
