@@ -1,16 +1,15 @@
 -- What a text begins with, and how reading goes on behind it.
-use Rattle.std.proofs.Common.{◌≤◌, ltb, length-drop, take-append-drop, ◌≡◌, ◌≢◌, ℕ, suc, ◌+◌, ◌-◌, ◌<◌, List, [], ◌∷◌, ◌++◌, length, get_or, take, drop, Bool, true, false, not, cond, eqb, zero, ◌||◌, ◌&&◌, ap, sym, ◌∙◌, refl, append_assoc, append-nil, length-append, subst, inl, inr, arith, add-one, add-zero, add_assoc}
-use Rattle.std.specs.Prelude.{Result, Ok, Err, Some, None, unwrap_or}
+use Rattle.std.proofs.Common.{◌≤◌, ltb, length-drop, take-append-drop, ◌≡◌, ◌≢◌, ℕ, suc, ◌+◌, ◌-◌, ◌<◌, List, [], ◌∷◌, ◌++◌, length, get_or, take, drop, Bool, true, false, not, cond, eqb, zero, ◌||◌, ◌&&◌, ap, sym, ◌∙◌, refl, append_assoc, append-nil, length-append, subst, inl, inr, arith}
+use Rattle.std.specs.Prelude.{Ok, Err, Some, None, unwrap_or}
 use Rattle.std.specs.List.{list_all, prefix_len, position_or_len, position}
 use Rattle.std.proofs.lemmas.Bool.{eq-eqb, eqb-true, ltb-false, false≢true}
 use Rattle.std.proofs.lemmas.List.{nil_from_length, length-take-le}
 use Rattle.std.proofs.lemmas.List.Sums.{prefix_len-le-length, prefix_len_stops}
 use Rattle.std.proofs.lemmas.Bool.Decides.{eqb_tells}
-use Rattle.fh_exprs.specs.declared.fault.ExprFault.{ExprFault}
 use Rattle.fh_exprs.specs.declared.fault.ExprFault.TheVariants.{OpenBrace}
 use Rattle.fh_exprs.specs.declared.form.Naming.{Naming}
 use Rattle.fh_exprs.specs.Layout.{Layout}
-use Rattle.fh_exprs.specs.Form.{Standing, outside, behind_close, inside, read_on, with_plain, with_name, name_fault, unless, is_brace, open_brace, close_brace, BeginsWithFault}
+use Rattle.fh_exprs.specs.Form.{outside, inside, read_on, with_plain, with_name, name_fault, unless, is_brace, open_brace, close_brace, BeginsWithFault}
 use Rattle.fh_exprs.proofs.Cuts.{eqb-from_ne}
 
 -- a text of which the reading stands at this place
@@ -21,13 +20,13 @@ at_place naming layout text m n e = ap (λ k. read_on naming layout (outside k) 
 -- a doubled brace
 pub doubled_open : (naming : Naming) (layout : Layout) (at : ℕ) (rest : List ℕ)
     → read_on naming layout (outside at) (open_brace ∷ open_brace ∷ rest)
-      ≡ read_on naming (with_plain (open_brace ∷ []) layout) (outside (at + 2)) rest
+    ≡ read_on naming (with_plain (open_brace ∷ []) layout) (outside (at + 2)) rest
 unfolding read_on
 doubled_open naming layout at rest = refl
 
 pub doubled_close : (naming : Naming) (layout : Layout) (at : ℕ) (rest : List ℕ)
     → read_on naming layout (outside at) (close_brace ∷ close_brace ∷ rest)
-      ≡ read_on naming (with_plain (close_brace ∷ []) layout) (outside (at + 2)) rest
+    ≡ read_on naming (with_plain (close_brace ∷ []) layout) (outside (at + 2)) rest
 unfolding read_on
 doubled_close naming layout at rest = refl
 
@@ -74,7 +73,7 @@ take_prefix p (x ∷ xs) = take_prefix-cons p x xs (p x) refl (take_prefix p xs)
 -- plain text is read as it is
 pub plain_run : (naming : Naming) (layout : Layout) (at : ℕ) (plain rest : List ℕ) → list_all is_plain plain ≡ true
     → read_on naming layout (outside at) (plain ++ rest)
-      ≡ read_on naming (with_plain plain layout) (outside (at + length plain)) rest
+    ≡ read_on naming (with_plain plain layout) (outside (at + length plain)) rest
 unfolding read_on
 plain_run naming layout at [] rest h =
     ap (λ last. read_on naming (record { spots = layout.spots; last = last }) (outside at) rest) (sym (append-nil layout.last))
@@ -82,31 +81,31 @@ plain_run naming layout at [] rest h =
 plain_run naming layout at (b ∷ plain) rest h =
     let parts = plain_parts (eqb b open_brace) (eqb b close_brace) (list_all is_plain plain) h in
     rw (parts.0, parts.1)
-      (plain_run naming (with_plain (b ∷ []) layout) (at + 1) plain rest parts.2
-      ∙ ap (λ last. read_on naming (record { spots = layout.spots; last = last }) (outside ((at + 1) + length plain)) rest)
-          (append_assoc layout.last (b ∷ []) plain)
-      ∙ at_place naming (with_plain (b ∷ plain) layout) rest ((at + 1) + length plain) (at + suc (length plain)) (omega arith))
+    (plain_run naming (with_plain (b ∷ []) layout) (at + 1) plain rest parts.2
+    ∙ ap (λ last. read_on naming (record { spots = layout.spots; last = last }) (outside ((at + 1) + length plain)) rest)
+    (append_assoc layout.last (b ∷ []) plain)
+    ∙ at_place naming (with_plain (b ∷ plain) layout) rest ((at + 1) + length plain) (at + suc (length plain)) (omega arith))
 
 -- a name goes on to its closing brace
 name_run : (naming : Naming) (layout : Layout) (at n : ℕ) (name more rest : List ℕ) → list_all is_plain more ≡ true
     → read_on naming layout (inside at (n ∷ name)) (more ++ (close_brace ∷ rest))
-      ≡ unless (name_fault naming layout at (n ∷ (name ++ more)))
-        (read_on naming (with_name (n ∷ (name ++ more)) layout) (outside (at + (length (n ∷ (name ++ more)) + 2))) rest)
+    ≡ unless (name_fault naming layout at (n ∷ (name ++ more)))
+    (read_on naming (with_name (n ∷ (name ++ more)) layout) (outside (at + (length (n ∷ (name ++ more)) + 2))) rest)
 unfolding read_on
 name_run naming layout at n name [] rest h =
     ap (λ whole. unless (name_fault naming layout at (n ∷ whole))
-      (read_on naming (with_name (n ∷ whole) layout) (outside (at + (length (n ∷ whole) + 2))) rest)) (sym (append-nil name))
+    (read_on naming (with_name (n ∷ whole) layout) (outside (at + (length (n ∷ whole) + 2))) rest)) (sym (append-nil name))
 name_run naming layout at n name (b ∷ more) rest h =
     let parts = plain_parts (eqb b open_brace) (eqb b close_brace) (list_all is_plain more) h in
     rw (parts.0, parts.1)
-      (name_run naming layout at n (name ++ (b ∷ [])) more rest parts.2
-      ∙ ap (λ whole. unless (name_fault naming layout at (n ∷ whole))
-          (read_on naming (with_name (n ∷ whole) layout) (outside (at + (length (n ∷ whole) + 2))) rest)) (append_assoc name (b ∷ []) more))
+    (name_run naming layout at n (name ++ (b ∷ [])) more rest parts.2
+    ∙ ap (λ whole. unless (name_fault naming layout at (n ∷ whole))
+    (read_on naming (with_name (n ∷ whole) layout) (outside (at + (length (n ∷ whole) + 2))) rest)) (append_assoc name (b ∷ []) more))
 
 pub named : (naming : Naming) (layout : Layout) (at : ℕ) (name rest : List ℕ) → name ≢ [] → list_all is_plain name ≡ true
     → read_on naming layout (outside at) (open_brace ∷ (name ++ (close_brace ∷ rest)))
-      ≡ unless (name_fault naming layout at name)
-        (read_on naming (with_name name layout) (outside (at + (length name + 2))) rest)
+    ≡ unless (name_fault naming layout at name)
+    (read_on naming (with_name name layout) (outside (at + (length name + 2))) rest)
 unfolding read_on
 named naming layout at [] rest ne h = absurd (ne refl)
 named naming layout at (n ∷ name) rest ne h =
@@ -121,7 +120,7 @@ unclosed_run naming layout at n name [] h = refl
 unclosed_run naming layout at n name (b ∷ text) h =
     let parts = not_parts (eqb b close_brace) (list_all is_open_or_plain text) h in
     elim (eqb_tells b open_brace) [
-      inl same ↦ rw same.0 refl
+      | inl same ↦ rw same.0 refl
       | inr other ↦ rw (other.0, parts.0) (unclosed_run naming layout at n (name ++ (b ∷ [])) text parts.1)
     ]
 
@@ -132,7 +131,7 @@ unclosed [] single h naming layout at ne = refl
 unclosed (b ∷ text) single h naming layout at ne =
     let parts = not_parts (eqb b close_brace) (list_all is_open_or_plain text) h in
     rw (eqb-from_ne b open_brace (λ e. single text (ap (λ x. x ∷ text) e)), parts.0)
-      (unclosed_run naming layout at b [] text parts.1)
+    (unclosed_run naming layout at b [] text parts.1)
 
 -- no name between the braces
 pub nameless : (rest : List ℕ) → BeginsWithFault (open_brace ∷ (close_brace ∷ rest))
@@ -149,7 +148,7 @@ open_run naming layout at n name (b ∷ text) rest zero h lt e = rw (eq-eqb b op
 open_run naming layout at n name (b ∷ text) rest (suc k) h lt e =
     let parts = not_parts (eqb b close_brace) (list_all is_open_or_plain text) h in
     elim (eqb_tells b open_brace) [
-      inl same ↦ rw same.0 refl
+      | inl same ↦ rw same.0 refl
       | inr other ↦ rw (other.0, parts.0) (open_run naming layout at n (name ++ (b ∷ [])) text rest k parts.1 (omega arith) e)
     ]
 
@@ -162,7 +161,7 @@ open_inside (b ∷ text) rest zero single h lt e naming layout at ne = absurd (s
 open_inside (b ∷ text) rest (suc k) single h lt e naming layout at ne =
     let parts = not_parts (eqb b close_brace) (list_all is_open_or_plain text) h in
     rw (eqb-from_ne b open_brace (λ same. single (text ++ rest) (ap (λ x. x ∷ (text ++ rest)) same)), parts.0)
-      (open_run naming layout at b [] text rest k parts.1 (omega arith) e)
+    (open_run naming layout at b [] text rest k parts.1 (omega arith) e)
 
 -- the same, of what the code found
 abbrev pub Lacks : ℕ → List ℕ → Type 0
@@ -186,13 +185,13 @@ pub open_in_name : (text name rest : List ℕ) (k : ℕ) → text ≡ name ++ (c
     → BeginsWithFault (open_brace ∷ text)
 open_in_name text name rest k e close single lt found =
     subst (λ (t : List ℕ). BeginsWithFault (open_brace ∷ t)) (sym e)
-      (open_inside name (close_brace ∷ rest) k (λ more same. single more (e ∙ same)) (no_close name close) lt found)
+    (open_inside name (close_brace ∷ rest) k (λ more same. single more (e ∙ same)) (no_close name close) lt found)
 
 pub named_at : (naming : Naming) (layout : Layout) (at : ℕ) (text name rest : List ℕ) → text ≡ name ++ (close_brace ∷ rest)
     → 0 < length name → Lacks close_brace name → Lacks open_brace name
     → read_on naming layout (outside at) (open_brace ∷ text)
-      ≡ unless (name_fault naming layout at name)
-        (read_on naming (with_name name layout) (outside (at + (suc (length text) - length rest))) rest)
+    ≡ unless (name_fault naming layout at name)
+    (read_on naming (with_name name layout) (outside (at + (suc (length text) - length rest))) rest)
 named_at naming layout at text name rest e filled close open' =
     let long : length text ≡ length name + suc (length rest) = ap length e ∙ length-append name (close_brace ∷ rest) in
     let width : length name + 2 ≡ suc (length text) - length rest = omega arith in
@@ -203,7 +202,7 @@ named_at naming layout at text name rest e filled close open' =
 -- a doubled brace that the code found
 pub doubled_open_at : (text after rest : List ℕ) → text ≡ open_brace ∷ after → after ≡ open_brace ∷ rest
     → (naming : Naming) (layout : Layout) (at : ℕ) → read_on naming layout (outside at) text
-      ≡ read_on naming (with_plain (open_brace ∷ []) layout) (outside (at + (length text - length rest))) rest
+    ≡ read_on naming (with_plain (open_brace ∷ []) layout) (outside (at + (length text - length rest))) rest
 doubled_open_at text after rest e f naming layout at =
     let whole : text ≡ open_brace ∷ (open_brace ∷ rest) = e ∙ ap (λ t. open_brace ∷ t) f in
     let long : length text ≡ suc (suc (length rest)) = ap length whole in
@@ -213,7 +212,7 @@ doubled_open_at text after rest e f naming layout at =
 
 pub doubled_close_at : (text after rest : List ℕ) → text ≡ close_brace ∷ after → after ≡ close_brace ∷ rest
     → (naming : Naming) (layout : Layout) (at : ℕ) → read_on naming layout (outside at) text
-      ≡ read_on naming (with_plain (close_brace ∷ []) layout) (outside (at + (length text - length rest))) rest
+    ≡ read_on naming (with_plain (close_brace ∷ []) layout) (outside (at + (length text - length rest))) rest
 doubled_close_at text after rest e f naming layout at =
     let whole : text ≡ close_brace ∷ (close_brace ∷ rest) = e ∙ ap (λ t. close_brace ∷ t) f in
     let long : length text ≡ suc (suc (length rest)) = ap length whole in
@@ -228,7 +227,7 @@ lone_close_at text after e h naming layout at ne =
 -- plain text that the code found
 pub plain_at : (text : List ℕ) (n : ℕ) → n ≡ position_or_len is_brace text
     → (naming : Naming) (layout : Layout) (at : ℕ) → read_on naming layout (outside at) text
-      ≡ read_on naming (with_plain (take n text) layout) (outside (at + (length text - length (drop n text)))) (drop n text)
+    ≡ read_on naming (with_plain (take n text) layout) (outside (at + (length text - length (drop n text)))) (drop n text)
 plain_at text n e naming layout at =
     let within : n ≤ length text = subst (λ (k : ℕ). k ≤ length text) (sym e) (prefix_len-le-length is_plain text) in
     let long : length (take n text) ≡ n = length-take-le n text within in
@@ -246,11 +245,12 @@ brace_at text n e lt = is_brace-lt (get_or text n 0) (not-true (is_brace (get_or
     not-true : (b : Bool) → not b ≡ false → b ≡ true
     not-true true h = refl
     not-true false h = absurd (false≢true (sym h))
+
     is_brace-lt : (b : ℕ) → is_brace b ≡ true → b < 128
     is_brace-lt b h = elim (eqb_tells b open_brace) [
-        inl same ↦ omega arith
-        | inr other ↦ (let close : eqb b close_brace ≡ true = rw other.0 at h in let e = eqb-true b close_brace close in omega arith)
-      ]
+      | inl same ↦ omega arith
+      | inr other ↦ (let close : eqb b close_brace ≡ true = rw other.0 at h in let e = eqb-true b close_brace close in omega arith)
+    ]
 
 -- some plain text comes first where no brace does
 pub plain_first : (text : List ℕ) → ((rest : List ℕ) → text ≢ open_brace ∷ rest) → ((rest : List ℕ) → text ≢ close_brace ∷ rest)
@@ -258,7 +258,7 @@ pub plain_first : (text : List ℕ) → ((rest : List ℕ) → text ≢ open_bra
 plain_first [] no_open no_close' ne = absurd (ne refl)
 plain_first (b ∷ text) no_open no_close' ne =
     rw (eqb-from_ne b open_brace (λ e. no_open text (ap (λ x. x ∷ text) e)), eqb-from_ne b close_brace (λ e. no_close' text (ap (λ x. x ∷ text) e)))
-      (omega arith)
+    (omega arith)
 
 pub rest_shorter : (text : List ℕ) (n : ℕ) → 0 < n → text ≢ [] → length (drop n text) < length text
 rest_shorter [] n pos ne = absurd (ne refl)

@@ -1,6 +1,6 @@
 -- A fault that is handed on.
 use Rattle.std.proofs.Common.{◌≡◌}
-use Rattle.std.specs.Prelude.{Result, Ok, Err}
+use Rattle.std.specs.Prelude.{Result, Err}
 use Rattle.fh_exprs.specs.declared.fault.ExprFault.{ExprFault}
 use Rattle.fh_exprs.specs.declared.fault.ExprFault.TheVariants.{OpenBrace, NoSetting, NoValue, NotText, SameName, NoMemory}
 use Rattle.fh_exprs.specs.Answers.{IsFaultOf}

@@ -5,7 +5,6 @@ use Rattle.std.specs.List.{AllByRecursion}
 use Rattle.std.specs.Str.{IsUtf8}
 use Rattle.std.specs.Ordering.{nat_cmp}
 use Rattle.std.specs.Cmp.Lexicographic.{slice_cmp}
-use Rattle.std.specs.declared.cmp.Ordering.{Ordering}
 use Rattle.std.specs.declared.cmp.Ordering.TheVariants.{Greater}
 use Rattle.std.proofs.lemmas.List.{append_cancel_right, reverse-append, take_at, drop_more}
 use Rattle.std.proofs.lemmas.Str.{IsUtf8-append, IsUtf8-take, IsCharBoundary-at_seam}
@@ -17,7 +16,7 @@ use Rattle.fh_exprs.proofs.Order.{cmp_le, cmp_rest, cmp_not_greater, front_part}
 pub nothing_read : (name : List ℕ) → IsGreatestTail [] name name []
 nothing_read name = record {
   reads = record { one_each = refl; characters = tt; whole = sym (append-nil name) };
-  greatest = only
+  greatest = only;
 }
   where
     only : (other : List ℕ) (others : List (List ℕ)) → IsTail [] name other others
@@ -34,7 +33,7 @@ tail_behind spot spots name other text texts tail = record {
   one_each = (let h = tail.one_each in omega arith);
   characters = tail.characters.1;
   whole = tail.whole ∙ (ap (λ t. other ++ t) (sym (append_assoc spot.0 text (spelled spots [] texts)))
-      ∙ sym (append_assoc other (spot.0 ++ text) (spelled spots [] texts)))
+      ∙ sym (append_assoc other (spot.0 ++ text) (spelled spots [] texts)));
 }
 
 -- the plain texts are texts, and so is what a tail leaves of a text
@@ -46,13 +45,13 @@ spelled_utf8 [] texts plain filled = ([], (refl, refl))
 spelled_utf8 (spot ∷ spots) [] plain filled = IsUtf8-append spot.0 (spelled spots [] []) plain.0 (spelled_utf8 spots [] plain.1 tt)
 spelled_utf8 (spot ∷ spots) (text ∷ texts) plain filled =
     IsUtf8-append spot.0 (text ++ spelled spots [] texts) plain.0
-      (IsUtf8-append text (spelled spots [] texts) filled.0.utf8 (spelled_utf8 spots texts plain.1 filled.1))
+    (IsUtf8-append text (spelled spots [] texts) filled.0.utf8 (spelled_utf8 spots texts plain.1 filled.1))
 
 left_utf8 : (spots : List Spot) (name other : List ℕ) (texts : List (List ℕ)) → IsUtf8 name → ArePlain spots → IsTail spots name other texts → IsUtf8 other
 left_utf8 spots name other texts utf8 plain tail =
     subst IsUtf8 (ap (take (length other)) tail.whole ∙ take_at other (spelled spots [] texts) (length other) refl)
-      (IsUtf8-take name (length other) utf8
-        (IsCharBoundary-at_seam name other (spelled spots [] texts) tail.whole (spelled_utf8 spots texts plain tail.characters)))
+    (IsUtf8-take name (length other) utf8
+    (IsCharBoundary-at_seam name other (spelled spots [] texts) tail.whole (spelled_utf8 spots texts plain tail.characters)))
 
 -- what is left before the spots has a place of the spot's plain text with the text behind it
 place_of : (spot : Spot) (spots : List Spot) (name rest other text : List ℕ) (texts found : List (List ℕ))
@@ -61,9 +60,9 @@ place_of : (spot : Spot) (spots : List Spot) (name rest other text : List ℕ) (
 place_of spot spots name rest other text texts found best tail =
     let behind = tail_behind spot spots name other text texts tail in
     let le = cmp_le (length (other ++ (spot.0 ++ text))) (length rest) (map length texts) (map length found)
-          (best.greatest (other ++ (spot.0 ++ text)) texts behind) in
+    (best.greatest (other ++ (spot.0 ++ text)) texts behind) in
     let part = front_part (other ++ (spot.0 ++ text)) rest (spelled spots [] texts) (spelled spots [] found)
-          (sym behind.whole ∙ best.reads.whole) le in
+    (sym behind.whole ∙ best.reads.whole) le in
     (part.0, part.1 ∙ append_assoc other (spot.0 ++ text) part.0 ∙ ap (λ t. other ++ t) (append_assoc spot.0 text part.0))
 
 filled_by : (text z : List ℕ) → IsFilledText text → text ++ z ≢ []
@@ -79,9 +78,9 @@ one_more spot spots name rest front behind found utf8 plain best cut = record {
     characters = (cut.filled, best.reads.characters);
     whole = best.reads.whole ∙ ap (λ t. t ++ spelled spots [] found) cut.whole
         ∙ append_assoc front (spot.0 ++ behind) (spelled spots [] found)
-        ∙ ap (λ t. front ++ t) (append_assoc spot.0 behind (spelled spots [] found))
+        ∙ ap (λ t. front ++ t) (append_assoc spot.0 behind (spelled spots [] found));
   };
-  greatest = greatest
+  greatest = greatest;
 }
   where
     greatest : (other : List ℕ) (others : List (List ℕ)) → IsTail (spot ∷ spots) name other others
@@ -95,10 +94,10 @@ one_more spot spots name rest front behind found utf8 plain best cut = record {
         let a = length-append other (spot.0 ++ text) in
         let b = length-append spot.0 text in
         let whole : length rest ≡ length front + (length spot.0 + length behind) =
-            ap length cut.whole ∙ length-append front (spot.0 ++ behind) ∙ ap (λ n. length front + n) (length-append spot.0 behind) in
+        ap length cut.whole ∙ length-append front (spot.0 ++ behind) ∙ ap (λ n. length front + n) (length-append spot.0 behind) in
         cmp_not_greater (length other) (length front) (length text ∷ map length texts) (length behind ∷ map length found) back
-          (λ same. cmp_not_greater (length text) (length behind) (map length texts) (map length found) (omega arith)
-            (λ alike. cmp_rest (length (other ++ (spot.0 ++ text))) (length rest) (map length texts) (map length found) (omega arith) known))
+        (λ same. cmp_not_greater (length text) (length behind) (map length texts) (map length found) (omega arith)
+        (λ alike. cmp_rest (length (other ++ (spot.0 ++ text))) (length rest) (map length texts) (map length found) (omega arith) known))
 
 pub none_more : (spot : Spot) (spots : List Spot) (name rest : List ℕ) (found : List (List ℕ)) → IsUtf8 name → ArePlain (spot ∷ spots)
     → IsGreatestTail spots name rest found → HasNoCut rest spot.0
@@ -132,7 +131,7 @@ ends_more spot spots name rest front text pairs utf8 plain ends cut =
     record {
       names = ap (map (λ p. p.0)) back ∙ ap (λ ns. spot.1 ∷ ns) ends.names;
       texts = subst (λ (ps : List (List ℕ × List ℕ)). IsGreatestTail (spot ∷ spots) name front (map (λ p. p.1) ps)) (sym back)
-        (one_more spot spots name rest front text (map (λ p. p.1) (reverse pairs)) utf8 plain ends.texts cut)
+          (one_more spot spots name rest front text (map (λ p. p.1) (reverse pairs)) utf8 plain ends.texts cut);
     }
 
 -- a reading by the first spot and the others is one by the others
@@ -140,7 +139,7 @@ pub reading_behind : (first : Spot) (others : List Spot) (name text : List ℕ) 
     → IsReading (layout_of (first ∷ others) []) name (text ∷ texts) → IsTail others name (first.0 ++ text) texts
 reading_behind first others name text texts reading =
     tail_behind first others name [] text texts
-      (record { one_each = reading.one_each; characters = reading.characters; whole = reading.whole })
+    (record { one_each = reading.one_each; characters = reading.characters; whole = reading.whole })
 
 pub whole_reading : (first : Spot) (others : List Spot) (name rest text : List ℕ) (found : List (List ℕ))
     → IsGreatestTail others name rest found → rest ≡ first.0 ++ text → IsFilledText text
@@ -149,9 +148,9 @@ whole_reading first others name rest text found best e filled = record {
   reads = record {
     one_each = (let h = best.reads.one_each in omega arith);
     characters = (filled, best.reads.characters);
-    whole = best.reads.whole ∙ ap (λ t. t ++ spelled others [] found) e ∙ append_assoc first.0 text (spelled others [] found)
+    whole = best.reads.whole ∙ ap (λ t. t ++ spelled others [] found) e ∙ append_assoc first.0 text (spelled others [] found);
   };
-  greatest = greatest
+  greatest = greatest;
 }
   where
     greatest : (texts : List (List ℕ)) → IsReading (layout_of (first ∷ others) []) name texts
@@ -163,7 +162,7 @@ whole_reading first others name rest text found best e filled = record {
         let a = length-append first.0 t in
         let b : length rest ≡ length first.0 + length text = ap length e ∙ length-append first.0 text in
         cmp_not_greater (length t) (length text) (map length ts) (map length found) (omega arith)
-          (λ same. cmp_rest (length (first.0 ++ t)) (length rest) (map length ts) (map length found) (omega arith) known)
+        (λ same. cmp_rest (length (first.0 ++ t)) (length rest) (map length ts) (map length found) (omega arith) known)
 
 -- a reading's first text follows the first plain text in what is left
 pub first_text : (first : Spot) (others : List Spot) (name rest : List ℕ) (found texts : List (List ℕ))
@@ -172,7 +171,7 @@ pub first_text : (first : Spot) (others : List Spot) (name rest : List ℕ) (fou
 first_text first others name rest found [] best reading = absurd (let h = reading.one_each in omega arith)
 first_text first others name rest found (text ∷ texts) best reading =
     let place = place_of first others name rest [] text texts found best
-          (record { one_each = reading.one_each; characters = reading.characters; whole = reading.whole }) in
+    (record { one_each = reading.one_each; characters = reading.characters; whole = reading.whole }) in
     (text ++ place.0, filled_by text place.0 reading.characters.0, place.1)
 
 pub no_tail_no_reading : (first : Spot) (others : List Spot) (name : List ℕ) (texts : List (List ℕ))
@@ -189,7 +188,7 @@ front_reads first others name rest text pairs ends e filled =
     record {
       names = ap (map (λ p. p.0)) back ∙ ap (λ ns. first.1 ∷ ns) ends.names;
       texts = subst (λ (ps : List (List ℕ × List ℕ)). IsGreatestReading (layout_of (first ∷ others) []) name (map (λ p. p.1) ps)) (sym back)
-        (whole_reading first others name rest text (map (λ p. p.1) (reverse pairs)) ends.texts e filled)
+          (whole_reading first others name rest text (map (λ p. p.1) (reverse pairs)) ends.texts e filled);
     }
 
 -- the plain text at the end
@@ -206,7 +205,7 @@ pub without_last : (spots : List Spot) (last front name : List ℕ) (texts : Lis
 without_last spots last front name texts e reading = record {
   one_each = reading.one_each;
   characters = reading.characters;
-  whole = append_cancel_right front (spelled spots [] texts) last (sym e ∙ reading.whole ∙ spelled_last spots last texts)
+  whole = append_cancel_right front (spelled spots [] texts) last (sym e ∙ reading.whole ∙ spelled_last spots last texts);
 }
 
 pub with_last : (spots : List Spot) (last front name : List ℕ) (texts : List (List ℕ)) → name ≡ front ++ last
@@ -214,7 +213,7 @@ pub with_last : (spots : List Spot) (last front name : List ℕ) (texts : List (
 with_last spots last front name texts e reading = record {
   one_each = reading.one_each;
   characters = reading.characters;
-  whole = e ∙ ap (λ t. t ++ last) reading.whole ∙ sym (spelled_last spots last texts)
+  whole = e ∙ ap (λ t. t ++ last) reading.whole ∙ sym (spelled_last spots last texts);
 }
 
 pub reads_with_last : (spots : List Spot) (last front name : List ℕ) (pairs : List (List ℕ × List ℕ)) → name ≡ front ++ last
@@ -223,8 +222,8 @@ reads_with_last spots last front name pairs e reads = record {
   names = reads.names;
   texts = record {
     reads = with_last spots last front name (map (λ p. p.1) pairs) e reads.texts.reads;
-    greatest = λ others reading. reads.texts.greatest others (without_last spots last front name others e reading)
-  }
+    greatest = λ others reading. reads.texts.greatest others (without_last spots last front name others e reading);
+  };
 }
 
 pub answer_with_last : {V : Type 0} (items : V → List (List ℕ × List ℕ)) (spots : List Spot) (last front name : List ℕ) → name ≡ front ++ last

@@ -12,7 +12,7 @@ Lacks bs = (i : ℕ) → i < length bs → get_or bs i 0 ≢ percent
 
 pieced_pair : (settings : List (List ℕ × List ℕ)) (text name : List ℕ) (pieces : List (List ℕ)) → pieces ≢ []
     → pieced settings (text ∷ name ∷ pieces)
-      ≡ joined (λ value rest. text ++ (value ++ rest)) (replacement settings name) (pieced settings pieces)
+    ≡ joined (λ value rest. text ++ (value ++ rest)) (replacement settings name) (pieced settings pieces)
 pieced_pair settings text name [] ne = absurd (ne refl)
 pieced_pair settings text name (next ∷ pieces) ne = refl
 

@@ -1,8 +1,7 @@
 -- Reading undoes writing, and writing undoes reading.
-use Rattle.std.proofs.Common.{◌≡◌, ◌≢◌, ℕ, suc, ◌+◌, List, [], ◌∷◌, ◌++◌, length, Bool, true, false, not, cond, ◌||◌, ◌&&◌, eqb, ap, sym, ◌∙◌, refl, subst, arith, append_assoc, append-nil, length-append, inl, inr}
+use Rattle.std.proofs.Common.{◌≡◌, ℕ, suc, ◌+◌, List, [], ◌∷◌, ◌++◌, length, Bool, true, false, cond, eqb, ap, sym, ◌∙◌, refl, subst, arith, append_assoc, append-nil, inl, inr}
 use Rattle.std.specs.Prelude.{Option, Some, None, Result, Ok, Err}
-use Rattle.std.specs.List.{AllByRecursion, list_all}
-use Rattle.std.proofs.lemmas.Bool.{eq-eqb, eqb-true, false≢true}
+use Rattle.std.specs.List.{AllByRecursion}
 use Rattle.std.proofs.lemmas.Bool.Decides.{eqb_tells}
 use Rattle.fh_exprs.specs.declared.fault.ExprFault.{ExprFault}
 use Rattle.fh_exprs.specs.declared.fault.ExprFault.TheVariants.{OpenBrace}
@@ -56,21 +55,21 @@ written_back naming layout (outside at) [] final h =
     let same : layout ≡ final = cc in ap written (sym same) ∙ sym (append-nil (written layout))
 written_back naming layout (outside at) (b ∷ text) final h =
     elim (eqb_tells b open_brace) [
-      inl open' ↦ written_back naming layout (inside at []) text final (rw open'.0 at h)
+      | inl open' ↦ written_back naming layout (inside at []) text final (rw open'.0 at h)
           ∙ append_assoc (written layout) (open_brace ∷ []) text ∙ ap (λ c. written layout ++ c ∷ text) (sym open'.1)
       | inr other ↦ (elim (eqb_tells b close_brace) [
-          inl close ↦ written_back naming layout (behind_close at) text final (rw (other.0, close.0) at h)
-              ∙ append_assoc (written layout) (close_brace ∷ []) text ∙ ap (λ c. written layout ++ c ∷ text) (sym close.1)
-          | inr plain ↦ written_back naming (with_plain (b ∷ []) layout) (outside (at + 1)) text final (rw (other.0, plain.0) at h)
-              ∙ ap (λ w. w ++ text) (written-plain layout.spots layout.last (b ∷ []))
-              ∙ ap (λ w. (written layout ++ w) ++ text) (let one : doubled (b ∷ []) ≡ b ∷ [] = rw (other.0, plain.0) refl in one)
-              ∙ append_assoc (written layout) (b ∷ []) text
-        ])
+        | inl close ↦ written_back naming layout (behind_close at) text final (rw (other.0, close.0) at h)
+            ∙ append_assoc (written layout) (close_brace ∷ []) text ∙ ap (λ c. written layout ++ c ∷ text) (sym close.1)
+        | inr plain ↦ written_back naming (with_plain (b ∷ []) layout) (outside (at + 1)) text final (rw (other.0, plain.0) at h)
+            ∙ ap (λ w. w ++ text) (written-plain layout.spots layout.last (b ∷ []))
+            ∙ ap (λ w. (written layout ++ w) ++ text) (let one : doubled (b ∷ []) ≡ b ∷ [] = rw (other.0, plain.0) refl in one)
+            ∙ append_assoc (written layout) (b ∷ []) text
+      ])
     ]
 written_back naming layout (behind_close at) [] final h = cc
 written_back naming layout (behind_close at) (b ∷ text) final h =
     elim (eqb_tells b close_brace) [
-      inl close ↦ written_back naming (with_plain (close_brace ∷ []) layout) (outside (at + 2)) text final (rw close.0 at h)
+      | inl close ↦ written_back naming (with_plain (close_brace ∷ []) layout) (outside (at + 2)) text final (rw close.0 at h)
           ∙ ap (λ w. w ++ text) (written-plain layout.spots layout.last (close_brace ∷ []))
           ∙ append_assoc (written layout) (close_brace ∷ (close_brace ∷ [])) text
           ∙ ap (λ c. written layout ++ close_brace ∷ (c ∷ text)) (sym close.1)
@@ -80,44 +79,44 @@ written_back naming layout (behind_close at) (b ∷ text) final h =
 written_back naming layout (inside at []) [] final h = cc
 written_back naming layout (inside at []) (b ∷ text) final h =
     elim (eqb_tells b open_brace) [
-      inl open' ↦ written_back naming (with_plain (open_brace ∷ []) layout) (outside (at + 2)) text final (rw open'.0 at h)
+      | inl open' ↦ written_back naming (with_plain (open_brace ∷ []) layout) (outside (at + 2)) text final (rw open'.0 at h)
           ∙ ap (λ w. w ++ text) (written-plain layout.spots layout.last (open_brace ∷ []))
           ∙ append_assoc (written layout) (open_brace ∷ (open_brace ∷ [])) text
           ∙ ap (λ c. written layout ++ open_brace ∷ (c ∷ text)) (sym open'.1)
           ∙ sym (append_assoc (written layout) (open_brace ∷ []) (b ∷ text))
       | inr other ↦ (elim (eqb_tells b close_brace) [
-          inl close ↦ (let no : Err (OpenBrace at) ≡ Ok final = rw (other.0, close.0) at h in cc)
-          | inr plain ↦ written_back naming layout (inside at (b ∷ [])) text final (rw (other.0, plain.0) at h)
-              ∙ append_assoc (written layout) (open_brace ∷ (b ∷ [])) text
-              ∙ sym (append_assoc (written layout) (open_brace ∷ []) (b ∷ text))
-        ])
+        | inl close ↦ (let no : Err (OpenBrace at) ≡ Ok final = rw (other.0, close.0) at h in cc)
+        | inr plain ↦ written_back naming layout (inside at (b ∷ [])) text final (rw (other.0, plain.0) at h)
+            ∙ append_assoc (written layout) (open_brace ∷ (b ∷ [])) text
+            ∙ sym (append_assoc (written layout) (open_brace ∷ []) (b ∷ text))
+      ])
     ]
 written_back naming layout (inside at (n ∷ name)) [] final h = cc
 written_back naming layout (inside at (n ∷ name)) (b ∷ text) final h =
     elim (eqb_tells b open_brace) [
-      inl open' ↦ (let no : Err (OpenBrace at) ≡ Ok final = rw open'.0 at h in cc)
+      | inl open' ↦ (let no : Err (OpenBrace at) ≡ Ok final = rw open'.0 at h in cc)
       | inr other ↦ (elim (eqb_tells b close_brace) [
-          inl close ↦
+        | inl close ↦
             (let given : unless (name_fault naming layout at (n ∷ name))
-                  (read_on naming (with_name (n ∷ name) layout) (outside (at + (length (n ∷ name) + 2))) text) ≡ Ok final = rw (other.0, close.0) at h in
+            (read_on naming (with_name (n ∷ name) layout) (outside (at + (length (n ∷ name) + 2))) text) ≡ Ok final = rw (other.0, close.0) at h in
             written_back naming (with_name (n ∷ name) layout) (outside (at + (length (n ∷ name) + 2))) text final
-              (unless-ok (name_fault naming layout at (n ∷ name)) _ final given)
+            (unless-ok (name_fault naming layout at (n ∷ name)) _ final given)
             ∙ ap (λ w. w ++ text) (written-name layout.spots layout.last (n ∷ name))
             ∙ append_assoc (written layout) (open_brace ∷ ((n ∷ name) ++ (close_brace ∷ []))) text
             ∙ ap (λ r. written layout ++ open_brace ∷ r) (append_assoc (n ∷ name) (close_brace ∷ []) text)
             ∙ ap (λ c. written layout ++ open_brace ∷ ((n ∷ name) ++ c ∷ text)) (sym close.1)
             ∙ sym (append_assoc (written layout) (open_brace ∷ (n ∷ name)) (b ∷ text)))
-          | inr plain ↦ written_back naming layout (inside at (n ∷ name ++ b ∷ [])) text final (rw (other.0, plain.0) at h)
-              ∙ append_assoc (written layout) (open_brace ∷ (n ∷ (name ++ b ∷ []))) text
-              ∙ ap (λ r. written layout ++ open_brace ∷ (n ∷ r)) (append_assoc name (b ∷ []) text)
-              ∙ sym (append_assoc (written layout) (open_brace ∷ (n ∷ name)) (b ∷ text))
-        ])
+        | inr plain ↦ written_back naming layout (inside at (n ∷ name ++ b ∷ [])) text final (rw (other.0, plain.0) at h)
+            ∙ append_assoc (written layout) (open_brace ∷ (n ∷ (name ++ b ∷ []))) text
+            ∙ ap (λ r. written layout ++ open_brace ∷ (n ∷ r)) (append_assoc name (b ∷ []) text)
+            ∙ sym (append_assoc (written layout) (open_brace ∷ (n ∷ name)) (b ∷ text))
+      ])
     ]
 
 -- doubled braces and plain bytes are read as the plain text
 after_byte : (naming : Naming) (layout : Layout) (m n b : ℕ) (plain rest : List ℕ) → m ≡ n
     → read_on naming (with_plain plain (with_plain (b ∷ []) layout)) (outside m) rest
-      ≡ read_on naming (with_plain (b ∷ plain) layout) (outside n) rest
+    ≡ read_on naming (with_plain (b ∷ plain) layout) (outside n) rest
 after_byte naming layout m n b plain rest e =
     ap (λ last. read_on naming (record { spots = layout.spots; last = last }) (outside m) rest) (append_assoc layout.last (b ∷ []) plain)
     ∙ at_place naming (with_plain (b ∷ plain) layout) rest m n e
@@ -137,24 +136,25 @@ doubled_run naming layout at [] rest =
     ∙ at_place naming (with_plain [] layout) rest at (at + 0) (omega arith)
 doubled_run naming layout at (b ∷ plain) rest =
     elim (eqb_tells b open_brace) [
-      inl open' ↦ subst (λ (c : ℕ). ReadsPlain naming layout at (c ∷ plain) rest) (sym open'.1)
+      | inl open' ↦ subst (λ (c : ℕ). ReadsPlain naming layout at (c ∷ plain) rest) (sym open'.1)
           (doubled_open naming layout at (doubled plain ++ rest)
           ∙ doubled_run naming (with_plain (open_brace ∷ []) layout) (at + 2) plain rest
           ∙ after_byte naming layout ((at + 2) + length (doubled plain)) (at + suc (suc (length (doubled plain)))) open_brace plain rest (omega arith))
       | inr other ↦ (elim (eqb_tells b close_brace) [
-          inl close ↦ subst (λ (c : ℕ). ReadsPlain naming layout at (c ∷ plain) rest) (sym close.1)
-              (doubled_close naming layout at (doubled plain ++ rest)
-              ∙ doubled_run naming (with_plain (close_brace ∷ []) layout) (at + 2) plain rest
-              ∙ after_byte naming layout ((at + 2) + length (doubled plain)) (at + suc (suc (length (doubled plain)))) close_brace plain rest (omega arith))
-          | inr single ↦ rw (other.0, single.0)
-              (plain_byte naming layout at b (doubled plain ++ rest) other.0 single.0
-              ∙ doubled_run naming (with_plain (b ∷ []) layout) (at + 1) plain rest
-              ∙ after_byte naming layout ((at + 1) + length (doubled plain)) (at + suc (length (doubled plain))) b plain rest (omega arith))
-        ])
+        | inl close ↦ subst (λ (c : ℕ). ReadsPlain naming layout at (c ∷ plain) rest) (sym close.1)
+            (doubled_close naming layout at (doubled plain ++ rest)
+            ∙ doubled_run naming (with_plain (close_brace ∷ []) layout) (at + 2) plain rest
+            ∙ after_byte naming layout ((at + 2) + length (doubled plain)) (at + suc (suc (length (doubled plain)))) close_brace plain rest (omega arith))
+        | inr single ↦ rw (other.0, single.0)
+            (plain_byte naming layout at b (doubled plain ++ rest) other.0 single.0
+            ∙ doubled_run naming (with_plain (b ∷ []) layout) (at + 1) plain rest
+            ∙ after_byte naming layout ((at + 1) + length (doubled plain)) (at + suc (length (doubled plain))) b plain rest (omega arith))
+      ])
     ]
+
 spots_read : (done : List Spot) (at : ℕ) (spots : List Spot) (last : List ℕ) → AllByRecursion (λ (spot : Spot). IsName spot.1) spots
     → read_on Free (record { spots = done; last = [] }) (outside at) (written_spots spots last)
-      ≡ Ok (record { spots = done ++ spots; last = last })
+    ≡ Ok (record { spots = done ++ spots; last = last })
 spots_read done at [] last names =
     ap (λ t. read_on Free (record { spots = done; last = [] }) (outside at) t) (sym (append-nil (doubled last)))
     ∙ doubled_run Free (record { spots = done; last = [] }) at last []

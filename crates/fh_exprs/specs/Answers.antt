@@ -1,5 +1,5 @@
 -- How what a call answers stands to what the definitions give.
-use Rattle.std.specs.Prelude.{◌≡◌, List, ℕ, Result, Ok, Err}
+use Rattle.std.specs.Prelude.{◌≡◌, Result, Ok, Err}
 use Rattle.fh_exprs.specs.declared.fault.ExprFault.{ExprFault}
 use Rattle.fh_exprs.specs.declared.fault.ExprFault.TheVariants.{OpenBrace, NoSetting, NoValue, NotText, SameName, NoMemory}
 

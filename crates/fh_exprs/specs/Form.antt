@@ -1,5 +1,5 @@
 -- How a text is read as plain text with named places, from the left.
-use Rattle.std.specs.Prelude.{◌≡◌, ◌≢◌, ℕ, ◌+◌, ◌-◌, ◌<◌, ◌==◌, Bool, true, false, not, ◌&&◌, ◌||◌, List, [], ◌∷◌, ◌++◌, length, map, codes, Option, Some, None, Result, Ok, Err, if◌then◌else◌}
+use Rattle.std.specs.Prelude.{◌≡◌, ◌≢◌, ℕ, ◌+◌, ◌-◌, ◌==◌, Bool, not, ◌||◌, List, [], ◌∷◌, ◌++◌, length, codes, Option, Some, None, Result, Ok, Err, if◌then◌else◌}
 use Rattle.std.specs.List.{list_all, list_any}
 use Rattle.std.specs.Char.{is_ascii_alphanumeric}
 use Rattle.std.specs.Str.{bytes_eq}
@@ -9,7 +9,7 @@ use Rattle.fh_exprs.specs.declared.form.Naming.{Naming}
 use Rattle.fh_exprs.specs.declared.form.Naming.TheVariants.{Free, Distinct}
 use Rattle.fh_exprs.specs.declared.form.Element.{Element}
 use Rattle.fh_exprs.specs.declared.form.Element.TheVariants.{Plain, Name}
-use Rattle.fh_exprs.specs.Layout.{Spot, Layout}
+use Rattle.fh_exprs.specs.Layout.{Layout}
 
 abbrev pub open_brace : ℕ
 open_brace = 123
@@ -75,7 +75,7 @@ read_on naming layout (inside at (n ∷ name)) (b ∷ text) =
     if b == open_brace then Err (OpenBrace at)
     else (if b == close_brace
     then unless (name_fault naming layout at (n ∷ name))
-      (read_on naming (with_name (n ∷ name) layout) (outside (at + (length (n ∷ name) + 2))) text)
+    (read_on naming (with_name (n ∷ name) layout) (outside (at + (length (n ∷ name) + 2))) text)
     else read_on naming layout (inside at (n ∷ name ++ b ∷ [])) text)
 
 abbrev pub blank : Layout
@@ -93,11 +93,11 @@ reading_of naming (Err fault) = Err fault
 abbrev pub BeginsWith : List ℕ → Element → List ℕ → Type 0
 BeginsWith text (Plain plain) rest = (naming : Naming) (layout : Layout) (at : ℕ)
     → read_on naming layout (outside at) text
-      ≡ read_on naming (with_plain plain.now layout) (outside (at + (length text - length rest))) rest
+    ≡ read_on naming (with_plain plain.now layout) (outside (at + (length text - length rest))) rest
 BeginsWith text (Name name) rest = (naming : Naming) (layout : Layout) (at : ℕ)
     → read_on naming layout (outside at) text
-      ≡ unless (name_fault naming layout at name.now)
-        (read_on naming (with_name name.now layout) (outside (at + (length text - length rest))) rest)
+    ≡ unless (name_fault naming layout at name.now)
+    (read_on naming (with_name name.now layout) (outside (at + (length text - length rest))) rest)
 
 -- a text that begins with a brace of another use has its first fault there
 abbrev pub BeginsWithFault : List ℕ → Type 0

@@ -1,5 +1,5 @@
 -- Looking into a JSON value, and the text that one stands for.
-use Rattle.std.specs.Prelude.{ℕ, ℤ, Bool, true, false, List, [], ◌∷◌, codes, Option, Some, None, option_and_then}
+use Rattle.std.specs.Prelude.{ℕ, true, false, List, [], ◌∷◌, codes, Option, Some, None, option_and_then}
 use Rattle.std.specs.Fmt.{decimal, signed_decimal}
 use Rattle.serde_json.specs.Data.{Num, unsigned, negative, float, Data, null, boolean, number, string, array, object}
 use Rattle.serde_json.specs.Find.{get}
@@ -27,4 +27,3 @@ json_text (object _) = None
 abbrev pub member_at : List (List ℕ) → Data → Option Data
 member_at [] value = Some value
 member_at (name ∷ names) value = option_and_then (member_at names) (get name value)
-

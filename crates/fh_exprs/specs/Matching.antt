@@ -2,7 +2,6 @@
 use Rattle.std.specs.Prelude.{◌≡◌, ◌≢◌, ℕ, List, [], ◌∷◌, ◌++◌, length, map, reverse, ◌≤◌}
 use Rattle.std.specs.List.{AllByRecursion}
 use Rattle.std.specs.Ordering.{nat_cmp}
-use Rattle.std.specs.declared.cmp.Ordering.{Ordering}
 use Rattle.std.specs.declared.cmp.Ordering.TheVariants.{Greater}
 use Rattle.std.specs.Cmp.Lexicographic.{slice_cmp}
 use Rattle.std.specs.Str.{IsUtf8}
@@ -29,7 +28,7 @@ pub record IsReading (layout : Layout) (name : List ℕ) (texts : List (List ℕ
 pub record IsGreatestReading (layout : Layout) (name : List ℕ) (texts : List (List ℕ)) : Type 0 where
   pub reads : IsReading layout name texts
   pub greatest : (others : List (List ℕ)) → IsReading layout name others
-    → slice_cmp nat_cmp (map length others) (map length texts) ≢ Greater
+      → slice_cmp nat_cmp (map length others) (map length texts) ≢ Greater
 
 -- the text ends with these spots, filled by the texts, and `rest` comes before them
 pub record IsTail (spots : List Spot) (name rest : List ℕ) (texts : List (List ℕ)) : Type 0 where
@@ -41,7 +40,7 @@ pub record IsTail (spots : List Spot) (name rest : List ℕ) (texts : List (List
 pub record IsGreatestTail (spots : List Spot) (name rest : List ℕ) (texts : List (List ℕ)) : Type 0 where
   pub reads : IsTail spots name rest texts
   pub greatest : (other : List ℕ) (others : List (List ℕ)) → IsTail spots name other others
-    → slice_cmp nat_cmp (length other ∷ map length others) (length rest ∷ map length texts) ≢ Greater
+      → slice_cmp nat_cmp (length other ∷ map length others) (length rest ∷ map length texts) ≢ Greater
 
 -- what is left before these spots, and their names and texts, the last first
 pub record EndsAs (spots : List Spot) (name rest : List ℕ) (pairs : List (List ℕ × List ℕ)) : Type 0 where
@@ -53,7 +52,7 @@ pub record IsLastCut (text before front behind : List ℕ) : Type 0 where
   pub whole : text ≡ front ++ (before ++ behind)
   pub filled : IsFilledText behind
   pub last : (other more : List ℕ) → IsUtf8 other → more ≢ [] → text ≡ other ++ (before ++ more)
-    → length other ≤ length front
+      → length other ≤ length front
 
 -- `before` has no place in the text with a character behind it
 abbrev pub HasNoCut : List ℕ → List ℕ → Type 0

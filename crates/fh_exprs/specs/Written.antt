@@ -1,5 +1,5 @@
 -- How plain texts and names are written.
-use Rattle.std.specs.Prelude.{◌≡◌, ◌≢◌, ℕ, Bool, true, not, List, [], ◌∷◌, ◌++◌, if◌then◌else◌}
+use Rattle.std.specs.Prelude.{◌≡◌, ◌≢◌, ℕ, true, not, List, [], ◌∷◌, ◌++◌, if◌then◌else◌}
 use Rattle.std.specs.List.{AllByRecursion, list_all}
 use Rattle.fh_exprs.specs.Layout.{Spot, Layout}
 use Rattle.fh_exprs.specs.Form.{open_brace, close_brace, is_brace}

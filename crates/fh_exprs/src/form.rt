@@ -1,7 +1,6 @@
 //! Reading a text as plain text with named places.
 
-ghost use Rattle.std.specs.Prelude.{◌≡◌, ◌<◌, length, IfOk, IfNone, IfSome, OnOk, string_bytes, Ok, ◌↔◌, IsTrue};
-ghost use Rattle.std.specs.Prelude.{◌≢◌, ◌||◌, ◌++◌, ◌∷◌, [], MatchOption, ◌≤◌, All, take, slice_index, ℕ, List};
+ghost use Rattle.std.specs.Prelude.{◌≡◌, ◌≢◌, ◌<◌, ◌||◌, ◌∷◌, [], List, ℕ, length, Ok, IfNone, IfSome};
 ghost use Rattle.std.specs.List.{list_all, list_any, position, position_or_len};
 ghost use Rattle.std.specs.Str.{bytes_eq};
 ghost use Rattle.fh_exprs.specs.Form.{BeginsWith, BeginsWithFault, is_word_byte as is_word_byte_lem, is_host_name as is_host_name_lem, is_brace, open_brace};
@@ -10,7 +9,7 @@ ghost use Rattle.fh_exprs.specs.Answers.{Gives, Leaves};
 use crate::fault::ExprFault;
 use crate::settings::Settings;
 use crate::text::Text;
-use std::alloc::{AllocError, Global};
+use std::alloc::Global;
 use std::marker::Model;
 
 /// Which names a text may have.

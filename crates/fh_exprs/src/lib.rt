@@ -4,12 +4,13 @@
 //! above:
 //! - `Template::read` and `Pattern::read` replace settings once and then read plain text and names
 //!   from the left; they answer exactly the first fault, and a missing setting before any other.
+//!   What is read gives the text again when it is written out.
 //! - `Template::resolve` gives exactly the plain texts and the values of the names, one behind the
 //!   other, or the first name without a text.
 //! - `Pattern::matches` gives, of all ways to read a name by a pattern, the one whose first name has
 //!   the longest text, then whose second has, and so on, and `None` exactly where there is no way.
 //!
-//! Definitions: `specs/Settings.antt`, `Layout`, `Form`, `Values` and `Matching`.
+//! Definitions: `specs/Settings.antt`, `Layout`, `Form`, `Written`, `Json`, `Values` and `Matching`.
 #![tactic(auto)]
 
 mod fault;

@@ -1,6 +1,6 @@
 //! App settings, and a text with its settings replaced.
 
-ghost use Rattle.std.specs.Prelude.{◌≡◌, ◌<◌, length, string_bytes, MatchOption, IfSome};
+ghost use Rattle.std.specs.Prelude.{◌<◌, length, string_bytes, MatchOption, IfSome};
 ghost use Rattle.fh_exprs.specs.Answers.{Gives};
 ghost use Rattle.fh_exprs.specs.Settings.{replaced, replacement, IsWithoutSettings, BeginsWithSetting};
 

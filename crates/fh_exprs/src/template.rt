@@ -2,6 +2,7 @@
 
 ghost use Rattle.std.specs.Prelude.{◌≡◌, IfOk, Ok, string_bytes};
 ghost use Rattle.fh_exprs.specs.Answers.{Gives};
+ghost use Rattle.fh_exprs.specs.Values.{filled};
 
 use crate::fault::ExprFault;
 use crate::form::{Form, Naming, Place};
@@ -57,14 +58,7 @@ impl Template {
     }
 }
 
-ghost use Rattle.fh_exprs.specs.Values.{filled};
-
-fn fill(
-    alloc: Global,
-    places: &[Place],
-    last: &str,
-    values: &Values,
-) -> Result<String, ExprFault>
+fn fill(alloc: Global, places: &[Place], last: &str, values: &Values) -> Result<String, ExprFault>
     ensures { Gives string_bytes result (filled values.now places.now last.now) }
 {
     let mut text = String::new(alloc);

@@ -27,7 +27,8 @@ fn settings_of(alloc: Global) -> Result<Settings, AllocError> {
     Ok(Settings { pairs })
 }
 
-const MESSAGE: &str = "{\"Id\":\"hidden\",\"name\":\"Ann\",\"n\":42,\"neg\":-5,\"yes\":true,\"no\":false,\"nil\":null,\
+const MESSAGE: &str =
+    "{\"Id\":\"hidden\",\"name\":\"Ann\",\"n\":42,\"neg\":-5,\"yes\":true,\"no\":false,\"nil\":null,\
     \"f\":1.5,\"e\":1e2,\"z\":-0,\"big\":18446744073709551615,\"huge\":18446744073709551616,\"list\":[1],\
     \"low\":-9223372036854775808,\"o\":{\"p\":{\"q\":\"deep\"},\"\":\"dot\"},\"\":\"blank\",\"a.b\":\"x\",\"text\":\"{n}\"}";
 

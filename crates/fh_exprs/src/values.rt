@@ -1,7 +1,10 @@
 //! The values that a template's names stand for.
 
-ghost use Rattle.std.specs.Prelude.{◌≡◌, IfOk, string_bytes, option_map};
+ghost use Rattle.std.specs.Prelude.{◌≡◌, ◌==◌, IfOk, option_map};
+ghost use Rattle.std.specs.List.{slice_split};
+ghost use Rattle.serde_json.specs.View.{view};
 ghost use Rattle.fh_exprs.specs.Answers.{Gives};
+ghost use Rattle.fh_exprs.specs.Json.{member_at, json_text as json_text_lem, dot};
 
 use crate::fault::ExprFault;
 use crate::pairs::Pairs;
@@ -60,11 +63,6 @@ impl Values {
         }
     }
 }
-
-ghost use Rattle.serde_json.specs.View.{view};
-ghost use Rattle.std.specs.List.{slice_split};
-ghost use Rattle.std.specs.Prelude.{◌==◌};
-ghost use Rattle.fh_exprs.specs.Json.{member_at, json_text as json_text_lem, dot};
 
 fn member_of<'v>(message: &'v Value, name: &str) -> Option<&'v Value>
     ensures { option_map (λ v. view v.now) result

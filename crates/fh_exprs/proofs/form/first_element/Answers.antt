@@ -1,4 +1,4 @@
-use Rattle.std.proofs.Common.{◌≡◌, ◌≢◌, ◌<◌, ◌≤◌, lit<, Some, None, length, arith, drop, subst, sym, ap, List, ℕ, take}
+use Rattle.std.proofs.Common.{◌<◌, ◌≤◌, lit<, Some, None, length, arith, subst, sym, ℕ}
 use Rattle.std.proofs.lemmas.Str.Pattern.{strip_prefix_char}
 use Rattle.std.proofs.lemmas.List.Sums.{prefix_len-le-length}
 use Rattle.fh_exprs.specs.Form.{open_brace, close_brace}
@@ -27,14 +27,15 @@ returns-in-Some-strip_prefix-2-clause-some c =
     doubled_close_at c.args.text.now c.in-Some-strip_prefix-2.after.now c.in_ok-rest.rest.now first second
 
 pub split_at-requires : goal.split_at-requires
-split_at-requires c =
-    (let le : c.plain_length.result ≤ length c.args.text.now = subst (λ (k : ℕ). k ≤ length c.args.text.now) (sym c.plain_length.ensures) (prefix_len-le-length is_plain c.args.text.now) in le,
-    λ lt high. absurd (let low = brace_at c.args.text.now c.plain_length.result c.plain_length.ensures lt in omega arith))
+split_at-requires c = (
+  let le : c.plain_length.result ≤ length c.args.text.now = subst (λ (k : ℕ). k ≤ length c.args.text.now) (sym c.plain_length.ensures) (prefix_len-le-length is_plain c.args.text.now) in le,
+  λ lt high. absurd (let low = brace_at c.args.text.now c.plain_length.result c.plain_length.ensures lt in omega arith),
+)
 
 pub returns-clause-some : goal.returns-clause-some
 returns-clause-some c naming layout at =
     rw (c.split_at.ensures.front, c.split_at.ensures.back)
-      (plain_at c.args.text.now c.plain_length.result c.plain_length.ensures naming layout at)
+    (plain_at c.args.text.now c.plain_length.result c.plain_length.ensures naming layout at)
 
 pub returns-clause-shorter : goal.returns-clause-shorter
 returns-clause-shorter c ne =

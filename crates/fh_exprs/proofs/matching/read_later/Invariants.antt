@@ -1,4 +1,4 @@
-use Rattle.std.proofs.Common.{◌≡◌, ◌≤◌, length, drop}
+use Rattle.std.proofs.Common.{◌≤◌, length, drop}
 use denote.Text.{Utf8}
 use denote.Shadow.{shadow}
 use Rattle.fh_exprs.specs.Matching.{EndsAs}
@@ -10,7 +10,7 @@ invariant-loop-left l = record {
   utf8 : shadow (Utf8 l.rest);
   plain : ArePlain (drop l.left l.places);
   within : l.left ≤ length l.places;
-  ends : EndsAs (drop l.left l.places) l.name l.rest l.pairs.items
+  ends : EndsAs (drop l.left l.places) l.name l.rest l.pairs.items;
 }
 
 abbrev pub decreases-loop-left : goal.decreases-loop-left

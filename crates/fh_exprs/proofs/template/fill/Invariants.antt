@@ -1,4 +1,4 @@
-use Rattle.std.proofs.Common.{◌≡◌, drop, ◌++◌, string_bytes, List, ℕ}
+use Rattle.std.proofs.Common.{◌≡◌, drop, ◌++◌, string_bytes}
 use Rattle.fh_exprs.specs.Answers.{mapped}
 use Rattle.fh_exprs.specs.Values.{filled}
 use Rattle.fh_exprs.proofs.template.fill.Given as goal

@@ -18,9 +18,9 @@ returns-in_err-found c =
     let cut = split_parts dot c.loop-first.rest.now (Some (c.in-Some.first, c.in-Some.names)) c.in-Some.ensures.cases (lit< tt) in
     let split = split_more dot c.loop-first.rest.now c.in-Some.first.now c.in-Some.names.now cut.0 cut.1 in
     rw c.from_residual.ensures
-      (sym (c.loop-first.invariant.reads
-        ∙ ap (λ ps. member_at ps (view c.loop-first.found.now)) split
-        ∙ ap (option_and_then (member_at (slice_split (λ b. eqb b dot) c.in-Some.names.now))) (sym c.in_err-found.ensures)))
+    (sym (c.loop-first.invariant.reads
+    ∙ ap (λ ps. member_at ps (view c.loop-first.found.now)) split
+    ∙ ap (option_and_then (member_at (slice_split (λ b. eqb b dot) c.in-Some.names.now))) (sym c.in_err-found.ensures)))
 
 pub loop-first-preserved : goal.loop-first-preserved
 loop-first-preserved c =
@@ -29,8 +29,8 @@ loop-first-preserved c =
     record {
       utf8 = search rules;
       reads = c.loop-first.invariant.reads
-        ∙ ap (λ ps. member_at ps (view c.loop-first.found.now)) split
-        ∙ ap (option_and_then (member_at (slice_split (λ b. eqb b dot) c.in-Some.names.now))) (sym c.in_ok-found.ensures)
+          ∙ ap (λ ps. member_at ps (view c.loop-first.found.now)) split
+          ∙ ap (option_and_then (member_at (slice_split (λ b. eqb b dot) c.in-Some.names.now))) (sym c.in_ok-found.ensures);
     }
 
 pub returns : goal.returns
@@ -38,6 +38,6 @@ returns c =
     let cut = split_parts dot c.loop-first.rest.now None c.in_default.ensures.cases (lit< tt) in
     let split = split_one dot c.loop-first.rest.now cut in
     sym (c.loop-first.invariant.reads
-      ∙ ap (λ ps. member_at ps (view c.loop-first.found.now)) split
-      ∙ last_member (get c.loop-first.rest.now (view c.loop-first.found.now))
-      ∙ sym c.get-2.ensures)
+    ∙ ap (λ ps. member_at ps (view c.loop-first.found.now)) split
+    ∙ last_member (get c.loop-first.rest.now (view c.loop-first.found.now))
+    ∙ sym c.get-2.ensures)

@@ -10,7 +10,7 @@ abbrev pub invariant-loop-first : goal.invariant-loop-first
 invariant-loop-first l = record {
   utf8 : shadow (Utf8 l.rest);
   reads : member_at (slice_split (λ b. b == dot) l.name) (view l.message)
-      ≡ member_at (slice_split (λ b. b == dot) l.rest) (view l.found)
+      ≡ member_at (slice_split (λ b. b == dot) l.rest) (view l.found);
 }
 
 abbrev pub decreases-loop-first : goal.decreases-loop-first

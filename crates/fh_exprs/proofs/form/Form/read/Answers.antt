@@ -7,4 +7,4 @@ pub returns : goal.returns
 returns c =
     c.loop-rest.invariant.reads
     ∙ at_end c.args.naming c.loop-rest.form (length c.args.text.now - length c.loop-rest.rest.now) c.loop-rest.rest.now
-      (eqb-true (length c.loop-rest.rest.now) 0 (sym c.loop-rest-test.ensures))
+    (eqb-true (length c.loop-rest.rest.now) 0 (sym c.loop-rest-test.ensures))

@@ -1,4 +1,4 @@
-use Rattle.std.proofs.Common.{◌≡◌, ℕ, ◌-◌, ◌≤◌, length}
+use Rattle.std.proofs.Common.{◌≡◌, ◌-◌, ◌≤◌, length}
 use denote.Text.{Utf8}
 use denote.Shadow.{shadow}
 use Rattle.fh_exprs.specs.Form.{reading, read_on, outside}
@@ -8,7 +8,7 @@ abbrev pub invariant-loop-rest : goal.invariant-loop-rest
 invariant-loop-rest l = record {
   utf8 : shadow (Utf8 l.rest);
   within : length l.rest ≤ length l.text;
-  reads : reading l.naming l.text ≡ read_on l.naming l.form (outside (length l.text - length l.rest)) l.rest
+  reads : reading l.naming l.text ≡ read_on l.naming l.form (outside (length l.text - length l.rest)) l.rest;
 }
 
 abbrev pub decreases-loop-rest : goal.decreases-loop-rest

@@ -1,4 +1,4 @@
-use Rattle.std.proofs.Common.{rules, ◌≡◌, ◌∙◌, ap, ◌++◌, string_bytes, List, ℕ}
+use Rattle.std.proofs.Common.{rules, ◌∙◌, ap, ◌++◌, string_bytes}
 use Rattle.std.specs.Prelude.{Ok}
 use Rattle.std.proofs.lemmas.Result.{err_from_is_err_and}
 use Rattle.fh_exprs.specs.Answers.{joined, mapped}
@@ -13,24 +13,24 @@ returns-in_err-value c =
     let settings = c.args.self.now.pairs in
     let next = c.in-Some.ensures.reads settings in
     rw (p.1, p.2)
-      (fault_passes c.in_err-value.field-0.0 (replacement settings c.in-Some.name.now) (replaced settings c.args.text.now)
-        (λ fault is. c.loop-before.invariant.reads
-          ∙ ap (mapped (λ t. string_bytes c.loop-before.done ++ t))
-            (next ∙ ap (λ r. joined (λ v more. c.in-Some.before.now ++ (v ++ more)) r (replaced settings c.in-Some.tail.now)) is))
-        c.in_err-value.ensures)
+    (fault_passes c.in_err-value.field-0.0 (replacement settings c.in-Some.name.now) (replaced settings c.args.text.now)
+    (λ fault is. c.loop-before.invariant.reads
+    ∙ ap (mapped (λ t. string_bytes c.loop-before.done ++ t))
+    (next ∙ ap (λ r. joined (λ v more. c.in-Some.before.now ++ (v ++ more)) r (replaced settings c.in-Some.tail.now)) is))
+    c.in_err-value.ensures)
 
 pub loop-before-preserved : goal.loop-before-preserved
 loop-before-preserved c =
     let settings = c.args.self.now.pairs in
     let next = c.in-Some.ensures.reads settings in
     let step = c.loop-before.invariant.reads
-          ∙ ap (mapped (λ t. string_bytes c.loop-before.done ++ t))
-            (next ∙ ap (λ r. joined (λ v more. c.in-Some.before.now ++ (v ++ more)) r (replaced settings c.in-Some.tail.now)) c.in_ok-value.ensures) in
+    ∙ ap (mapped (λ t. string_bytes c.loop-before.done ++ t))
+    (next ∙ ap (λ r. joined (λ v more. c.in-Some.before.now ++ (v ++ more)) r (replaced settings c.in-Some.tail.now)) c.in_ok-value.ensures) in
     let grown = mapped-joined (string_bytes c.loop-before.done) c.in-Some.before.now c.in_ok-value.value.now
-          (replaced settings c.args.text.now) (replaced settings c.in-Some.tail.now) step in
+    (replaced settings c.args.text.now) (replaced settings c.in-Some.tail.now) step in
     record {
       utf8 = search rules;
-      reads = grown ∙ ap (λ d. mapped (λ t. d ++ t) (replaced settings c.in-Some.tail.now)) (search rules)
+      reads = grown ∙ ap (λ d. mapped (λ t. d ++ t) (replaced settings c.in-Some.tail.now)) (search rules);
     }
 
 pub returns : goal.returns

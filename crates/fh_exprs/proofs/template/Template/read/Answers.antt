@@ -1,5 +1,4 @@
 use Rattle.std.proofs.Common.{◌∙◌, sym, subst}
-use Rattle.std.specs.Prelude.{Ok}
 use Rattle.std.proofs.lemmas.Result.{err_from_is_err_and}
 use Rattle.fh_exprs.specs.declared.form.Naming.TheVariants.{Free}
 use Rattle.fh_exprs.specs.Answers.{IsFaultOf}
@@ -18,5 +17,5 @@ pub returns-in_err-form-clause-every : goal.returns-in_err-form-clause-every
 returns-in_err-form-clause-every c layout names e =
     let p = err_from_is_err_and c.from_residual.result c.from_residual.ensures.1 in
     rw (p.1, p.2)
-      (subst (IsFaultOf c.in_err-form.field-0.0)
-        (reading_of_written (replaced c.args.settings.now.pairs c.args.text.now) layout names e) c.in_err-form.ensures)
+    (subst (IsFaultOf c.in_err-form.field-0.0)
+    (reading_of_written (replaced c.args.settings.now.pairs c.args.text.now) layout names e) c.in_err-form.ensures)
