@@ -1,0 +1,226 @@
+//! Reading a text as plain text with named places.
+
+ghost use Rattle.std.specs.Prelude.{◌≡◌, ◌≢◌, ◌<◌, ◌||◌, ◌∷◌, [], List, ℕ, length, Ok, IfNone, IfSome};
+ghost use Rattle.std.specs.List.{list_all, list_any, position, position_or_len};
+ghost use Rattle.std.specs.Str.{bytes_eq};
+ghost use Rattle.fh_exprs.specs.Form.{BeginsWith, BeginsWithFault, is_word_byte as is_word_byte_lem, is_host_name as is_host_name_lem, is_brace, open_brace};
+ghost use Rattle.fh_exprs.specs.Answers.{Gives, Leaves};
+
+use crate::fault::ExprFault;
+use crate::settings::Settings;
+use crate::text::Text;
+use std::alloc::Global;
+use std::marker::Model;
+
+/// Which names a text may have.
+#[derive(Clone, Copy, Debug, PartialEq, Eq)]
+pub enum Naming {
+    /// Any, as in a template.
+    Free,
+    /// Words of ASCII letters, digits and `_` that differ from each other, as in a pattern.
+    Distinct,
+}
+
+/// A plain text and the name behind it.
+pub type Place = (Text, Text);
+
+/// Places, and the plain text behind the last one.
+#[derive(Debug, Drop)]
+pub struct Form {
+    places: Vec<Place>,
+    last: Text,
+}
+
+impl Model for Form {
+    ghost use Rattle.fh_exprs.specs.Layout.{Layout};
+
+    ghost Value = { Layout };
+
+    ghost view = { λ f. record { spots = f.places.items; last = f.last } };
+}
+
+/// What a text begins with.
+pub enum Element<'a> {
+    Plain(&'a str),
+    Name(&'a str),
+}
+
+impl Form {
+    ghost use Rattle.fh_exprs.specs.Settings.{replaced};
+    ghost use Rattle.fh_exprs.specs.Form.{reading, reading_of, blank, with_plain, with_name, name_fault, unless};
+
+    /// What the text reads as once its settings are replaced.
+    pub fn read_with_settings(
+        alloc: Global,
+        text: &str,
+        settings: &Settings,
+        naming: Naming,
+    ) -> Result<Form, ExprFault>
+        ensures { Gives (λ f. f) result (reading_of naming (replaced settings.now.pairs text.now)) }
+    {
+        let text = settings.replace(alloc, text)?;
+        Form::read(alloc, text.as_str(), naming)
+    }
+
+    /// What the text reads as, from the left.
+    fn read(alloc: Global, text: &str, naming: Naming) -> Result<Form, ExprFault>
+        ensures { Gives (λ f. f) result (reading naming text.now) }
+    {
+        let mut form = Form::new(alloc);
+        let mut rest = text;
+        while !rest.is_empty() {
+            let at = (text.len() - rest.len()) as u64;
+            let Some((element, after)) = first_element(rest) else {
+                return Err(ExprFault::OpenBrace { at });
+            };
+            match element {
+                Element::Plain(plain) => form.add_plain(plain)?,
+                Element::Name(name) => form.add_name(alloc, name, at, naming)?,
+            }
+            rest = after;
+        }
+        Ok(form)
+    }
+
+    pub fn places(&self) -> &[Place]
+        ensures { result.now ≡ self.now.spots }
+    {
+        self.places.as_slice()
+    }
+
+    pub fn last(&self) -> &str
+        ensures { result.now ≡ self.now.last }
+    {
+        self.last.as_str()
+    }
+
+    fn new(alloc: Global) -> Form
+        ensures { result ≡ blank }
+    {
+        Form {
+            places: Vec::new(alloc),
+            last: Text::new(alloc),
+        }
+    }
+
+    fn add_plain(&mut self, plain: &str) -> Result<(), ExprFault>
+        ensures { Leaves result self.new (Ok (with_plain plain.now self.old)) }
+    {
+        self.last.push_str(plain)?;
+        Ok(())
+    }
+
+    fn add_name(
+        &mut self,
+        alloc: Global,
+        name: &str,
+        at: u64,
+        naming: Naming,
+    ) -> Result<(), ExprFault>
+        ensures { Leaves result self.new
+            (unless (name_fault naming self.old at name.now) (Ok (with_name name.now self.old))) }
+    {
+        if naming == Naming::Distinct {
+            self.judge(alloc, name, at)?;
+        }
+        let name = Text::from_str(alloc, name)?;
+        let before = std::mem::replace(&mut self.last, Text::new(alloc));
+        self.places.push((before, name))?;
+        Ok(())
+    }
+
+    // The fault of one more name of a pattern, whose brace stands at this byte.
+    fn judge(&self, alloc: Global, name: &str, at: u64) -> Result<(), ExprFault>
+        ensures { Leaves result self.now
+            (unless (name_fault Naming.Distinct self.now at name.now) (Ok self.now)) }
+    {
+        if !is_word(name) {
+            return Err(ExprFault::OpenBrace { at });
+        }
+        if is_taken(self.places(), name) {
+            let name = Text::from_str(alloc, name)?;
+            return Err(ExprFault::SameName { name });
+        }
+        Ok(())
+    }
+}
+
+fn is_word(name: &str) -> bool
+    ensures { result ≡ list_all is_word_byte_lem name.now }
+{
+    name.bytes().all(is_word_byte)
+}
+
+fn is_word_byte(b: u8) -> bool
+    ensures { result ≡ is_word_byte_lem b }
+{
+    b.is_ascii_alphanumeric() || b == b'_'
+}
+
+// Whether the host or an earlier place has this name.
+fn is_taken(places: &[Place], name: &str) -> bool
+    ensures { result ≡ (is_host_name_lem name.now
+        || list_any (λ spot. bytes_eq spot.1 name.now) places.now) }
+{
+    is_host_name(name) || has_name(places, name)
+}
+
+fn has_name(places: &[Place], name: &str) -> bool
+    ensures { result ≡ list_any (λ spot. bytes_eq spot.1 name.now) places.now }
+{
+    places.iter().any(|place| place.1.as_str() == name)
+}
+
+fn is_host_name(name: &str) -> bool
+    ensures { result ≡ is_host_name_lem name.now }
+{
+    name == "BlobTrigger" || name == "sys"
+}
+
+// What the text begins with and what is left, or `None` where it begins with a brace of another use.
+fn first_element(text: &str) -> Option<(Element<'_>, &str)>
+    ensures none { IfNone result (BeginsWithFault text.now) }
+    ensures some { IfSome result (λ r. BeginsWith text.now r.0 r.1.now) }
+    ensures shorter { IfSome result (λ r. text.now ≢ [] → length r.1.now < length text.now) }
+{
+    if let Some(after) = text.strip_prefix('{') {
+        return match after.strip_prefix('{') {
+            Some(rest) => Some((Element::Plain("{"), rest)),
+            None => first_name(after),
+        };
+    }
+    if let Some(after) = text.strip_prefix('}') {
+        let rest = after.strip_prefix('}')?;
+        return Some((Element::Plain("}"), rest));
+    }
+    let (plain, rest) = text.split_at(plain_length(text));
+    Some((Element::Plain(plain), rest))
+}
+
+// Behind an opening brace: the name and what follows its closing brace, or `None` where there is no
+// name.
+fn first_name(text: &str) -> Option<(Element<'_>, &str)>
+    requires { (rest : List ℕ) → text.now ≢ open_brace ∷ rest }
+    ensures none { IfNone result (BeginsWithFault (open_brace ∷ text.now)) }
+    ensures some { IfSome result (λ r. BeginsWith (open_brace ∷ text.now) r.0 r.1.now) }
+    ensures shorter { IfSome result (λ r. length r.1.now < length text.now) }
+{
+    let (name, rest) = text.split_once('}')?;
+    if name.is_empty() || name.contains('{') {
+        return None;
+    }
+    Some((Element::Name(name), rest))
+}
+
+// How many bytes come before the first brace.
+fn plain_length(text: &str) -> usize
+    ensures { result ≡ position_or_len is_brace text.now }
+{
+    first_brace(text.as_bytes()).unwrap_or(text.len())
+}
+
+fn first_brace(bytes: &[u8]) -> Option<usize>
+    ensures { result ≡ position is_brace bytes.now }
+{
+    bytes.iter().position(|b| *b == b'{' || *b == b'}')
+}

@@ -1,0 +1,35 @@
+//! Binding expressions of Azure Functions apps.
+//!
+//! A text may name app settings as `%name%` and values as `{name}`. The crate promises to the layer
+//! above:
+//! - `Template::read` and `Pattern::read` replace settings once and then read plain text and names
+//!   from the left; they answer exactly the first fault, and a missing setting before any other.
+//!   What is read gives the text again when it is written out.
+//! - `Template::resolve` gives exactly the plain texts and the values of the names, one behind the
+//!   other, or the first name without a text.
+//! - `Pattern::matches` gives, of all ways to read a name by a pattern, the one whose first name has
+//!   the longest text, then whose second has, and so on, and `None` exactly where there is no way.
+//!
+//! Definitions: `specs/Settings.antt`, `Layout`, `Form`, `Written`, `Json`, `Values` and `Matching`.
+#![tactic(auto)]
+
+mod fault;
+mod form;
+mod matching;
+mod pairs;
+mod pattern;
+mod settings;
+mod template;
+mod text;
+mod values;
+
+pub use fault::{ExprFault, NoMemory};
+pub use pairs::Pairs;
+pub use pattern::Pattern;
+pub use settings::Settings;
+pub use template::Template;
+pub use text::Text;
+pub use values::Values;
+
+#[cfg(test)]
+mod tests;
