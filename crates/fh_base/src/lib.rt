@@ -7,18 +7,26 @@
 //! tell all, and fail exactly at the calls of their plan; the adapters over real streams tell nothing.
 #![tactic(auto)]
 
+mod blob_name;
 mod both;
 mod fault_plan;
 mod faults;
+mod moment;
+mod plain_name;
 mod queue_name;
+mod rule;
 mod sink;
 mod source;
 mod status;
 
+pub use blob_name::is_blob_name;
 pub use both::Both;
 pub use fault_plan::{Failing, FaultPlan};
 pub use faults::{Failed, NoMemory};
+pub use moment::Moment;
+pub use plain_name::PlainName;
 pub use queue_name::QueueName;
+pub use rule::Rule;
 pub use sink::{MemorySink, Sink, StreamSink};
 pub use source::{MemorySource, Source, StreamSource};
 pub use status::Status;
