@@ -1,0 +1,18 @@
+//! Commands, replies, rules' texts, and the bytes of journal entries.
+//!
+//! Promised to the layers above: contracts see a command, a reply and a text as plain values. What
+//! `encode` appends is the one spelling of a moment and a command, and after want of memory nothing is
+//! appended. `decode` reads exactly these spellings and answers every other list of bytes with its first
+//! fault from the left; so reading what was written gives the same value, and no second spelling is read.
+//! `answer_text` writes the line that a script prints for a reply or a rule.
+#![tactic(auto)]
+
+mod command;
+mod faults;
+mod reply;
+mod text;
+
+pub use command::Command;
+pub use faults::{EventFault, PlanFault, StepFault};
+pub use reply::{Item, Items, Place, Reply};
+pub use text::Text;
