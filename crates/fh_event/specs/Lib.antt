@@ -1,0 +1,5 @@
+pub mod Fields
+pub mod Kinds
+pub mod Entries
+pub mod Answers
+pub mod Reading

@@ -9,10 +9,13 @@
 
 mod command;
 mod faults;
+mod reading;
 mod reply;
+mod tables;
 mod text;
 
 pub use command::Command;
 pub use faults::{EventFault, PlanFault, StepFault};
 pub use reply::{Item, Items, Place, Reply};
+pub use tables::{FieldType, Table};
 pub use text::Text;
