@@ -25,3 +25,8 @@ HasShortTexts command = AllByRecursion IsShort (fields_of command)
 pub record AppendsEntry (old new : List ℕ) (moment : ℕ) (command : Command) : Type 0 where
   pub appended : new ≡ old ++ entry moment command
   pub is_entry : IsEntry (entry moment command) moment command
+
+-- more may stand behind the old bytes, and these are as they were
+pub record Extends (old new : List ℕ) : Type 0 where
+  pub more : List ℕ
+  pub longer : new ≡ old ++ more

@@ -14,15 +14,15 @@ abbrev pub text_limit : ℕ
 text_limit = 16777216
 
 -- eight bytes, the greatest place first
-abbrev pub number_bytes : ℕ → List ℕ
+unfoldable pub number_bytes : ℕ → List ℕ
 number_bytes n = to_be_bytes w64 n
 
 -- the length in four bytes, and then the text
-abbrev pub text_bytes : List ℕ → List ℕ
+unfoldable pub text_bytes : List ℕ → List ℕ
 text_bytes text = to_be_bytes w32 (length text) ++ text
 
 -- a byte 0, or a byte 1 and the value
-abbrev pub maybe_bytes : {X : Type 0} → (X → List ℕ) → Option X → List ℕ
+unfoldable pub maybe_bytes : {X : Type 0} → (X → List ℕ) → Option X → List ℕ
 maybe_bytes bytes None = 0 ∷ []
 maybe_bytes bytes (Some x) = 1 ∷ bytes x
 

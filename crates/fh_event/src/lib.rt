@@ -13,6 +13,7 @@ mod reading;
 mod reply;
 mod tables;
 mod text;
+mod writing;
 
 pub use command::Command;
 pub use faults::{EventFault, PlanFault, StepFault};

@@ -1,14 +1,16 @@
 // Reading entries from left to right.
-ghost use Rattle.std.specs.Prelude.{◌≡◌, true, false, MatchOption};
+ghost use Rattle.std.specs.Prelude.{◌≡◌, ℕ, true, false, Ok, IfOk, MatchOption};
 ghost use Rattle.std.specs.Str.{is_utf8};
 ghost use Rattle.std.specs.Int.{w32, w64};
 ghost use Rattle.fh_event.specs.Answers.{Gives};
-ghost use Rattle.fh_event.specs.Reading.{number_at, text_at, maybe_number_at, maybe_text_at, command_at};
+ghost use Rattle.fh_event.specs.Reading.{number_at, text_at, maybe_number_at, maybe_text_at, command_at, kind_byte_at, entry_read};
+ghost use Rattle.fh_event.specs.Entries.{IsEntry};
 
 use crate::command::Command;
 use crate::faults::EventFault;
 use crate::tables::{clear, delete, locate, make_queue, peek, put, take, update};
 use crate::text::Text;
+use fh_base::Moment;
 use std::alloc::Global;
 
 const LIMIT: usize = 16777216;
@@ -126,4 +128,32 @@ fn command_of(alloc: Global, kind: u8, rest: &[u8]) -> Result<(Command, &[u8]), 
         23 => locate!(reader alloc rest),
         _ => Err(EventFault::BadKind { kind }),
     }
+}
+
+#[tactic(auto, unfolding(crate::specs::Reading::kind_byte_at))]
+fn kind_byte_of(bytes: &[u8]) -> Result<(u8, &[u8]), EventFault>
+    ensures { Gives (λ x. (x.0, x.1.now)) result (kind_byte_at bytes.now) }
+{
+    match bytes {
+        [] => Err(EventFault::ShortField { field: 0 }),
+        [kind, rest @ ..] => Ok((*kind, rest)),
+    }
+}
+
+#[tactic(auto, unfolding(crate::specs::Reading::entry_read, crate::specs::Reading::moment_at))]
+fn entry_of(alloc: Global, bytes: &[u8]) -> Result<(Moment, Command), EventFault>
+    ensures { Gives (λ x. x) result (entry_read bytes.now) }
+{
+    let (ms, rest) = number_of(0, bytes)?;
+    let Some(moment) = Moment::new(ms) else {
+        return Err(EventFault::BadField { field: 0 });
+    };
+    let (kind, rest) = kind_byte_of(rest)?;
+    let (command, rest) = command_of(alloc, kind, rest)?;
+    if !rest.is_empty() {
+        return Err(EventFault::Trailing {
+            left: rest.len() as u64,
+        });
+    }
+    Ok((moment, command))
 }

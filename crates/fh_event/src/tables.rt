@@ -57,3 +57,18 @@ macro_rules! locate {
 }
 
 pub(crate) use {clear, delete, locate, make_queue, peek, put, take, update};
+
+macro_rules! table {
+    ([] $kind:literal $variant:ident { $($field:literal $name:ident: $type:ident),* }) => {
+        Table { kind: $kind, fields: [$(FieldType::$type),*] }
+    };
+}
+
+pub const MAKE_QUEUE: Table<1> = make_queue!(table);
+pub const PUT: Table<4> = put!(table);
+pub const TAKE: Table<3> = take!(table);
+pub const UPDATE: Table<5> = update!(table);
+pub const DELETE: Table<3> = delete!(table);
+pub const CLEAR: Table<1> = clear!(table);
+pub const PEEK: Table<2> = peek!(table);
+pub const LOCATE: Table<1> = locate!(table);
