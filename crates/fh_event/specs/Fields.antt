@@ -1,5 +1,5 @@
 -- The fields of an entry, and the one spelling of each.
-use Rattle.std.specs.Prelude.{◌≡◌, ℕ, ◌<◌, ◌≤◌, ◌^◌, List, [], ◌∷◌, ◌++◌, length, Option, Some, None, ⊤, IsUtf8}
+use Rattle.std.specs.Prelude.{◌≡◌, ℕ, ◌<◌, ◌≤◌, ◌^◌, List, [], ◌∷◌, ◌++◌, length, Option, Some, None, IfSome, ⊤, IsUtf8}
 use Rattle.std.specs.Int.{w32, w64, to_be_bytes}
 
 -- what stands in a field
@@ -41,15 +41,12 @@ pub record IsText (text : List ℕ) : Type 0 where
 abbrev pub IsField : Field → Type 0
 IsField (number n) = n < 2 ^ 64
 IsField (words text) = IsText text
-IsField (maybe_number None) = ⊤
-IsField (maybe_number (Some n)) = n < 2 ^ 64
-IsField (maybe_words None) = ⊤
-IsField (maybe_words (Some text)) = IsText text
+IsField (maybe_number n) = IfSome n (λ m. m < 2 ^ 64)
+IsField (maybe_words text) = IfSome text IsText
 
 -- no text is too long for a field
 abbrev pub IsShort : Field → Type 0
 IsShort (number n) = ⊤
 IsShort (words text) = length text ≤ text_limit
 IsShort (maybe_number n) = ⊤
-IsShort (maybe_words None) = ⊤
-IsShort (maybe_words (Some text)) = length text ≤ text_limit
+IsShort (maybe_words text) = IfSome text (λ t. length t ≤ text_limit)
