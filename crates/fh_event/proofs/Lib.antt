@@ -1,2 +1,5 @@
 pub mod Utf8
 pub mod Extending
+pub mod Steps
+pub mod FieldLaws
+pub mod EntryLaws

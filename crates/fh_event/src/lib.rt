@@ -17,6 +17,8 @@ mod writing;
 
 pub use command::Command;
 pub use faults::{EventFault, PlanFault, StepFault};
+pub use reading::decode;
 pub use reply::{Item, Items, Place, Reply};
 pub use tables::{FieldType, Table};
 pub use text::Text;
+pub use writing::encode;

@@ -15,6 +15,20 @@ use std::alloc::Global;
 
 const LIMIT: usize = 16777216;
 
+/// The moment and the command of an entry, which the bytes are from end to end.
+#[tactic(auto, using(crate::proofs::EntryLaws::is_read, crate::proofs::EntryLaws::read_again))]
+pub fn decode(alloc: Global, bytes: &[u8]) -> Result<(Moment, Command), EventFault>
+    // What is read is an entry.
+    ensures read { IfOk result (λ x. IsEntry bytes.now x.0 x.1) }
+    // An entry is read, unless memory runs out.
+    ensures only { (moment : ℕ) (command : Command) → IsEntry bytes.now moment command
+        → Gives (λ x. x) result (Ok (moment, command)) }
+    // Which fault it is.
+    ensures fault { Gives (λ x. x) result (entry_read bytes.now) }
+{
+    entry_of(alloc, bytes)
+}
+
 fn length_of(field: u8, bytes: &[u8]) -> Result<(u32, &[u8]), EventFault>
     ensures { Gives (λ x. (x.0, x.1.now)) result (number_at w32 field bytes.now) }
 {
