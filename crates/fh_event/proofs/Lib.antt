@@ -3,3 +3,5 @@ pub mod Extending
 pub mod Steps
 pub mod FieldLaws
 pub mod EntryLaws
+pub mod Joining
+pub mod Escaping

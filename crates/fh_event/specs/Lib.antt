@@ -3,3 +3,4 @@ pub mod Kinds
 pub mod Entries
 pub mod Answers
 pub mod Reading
+pub mod Lines

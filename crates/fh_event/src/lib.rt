@@ -9,6 +9,7 @@
 
 mod command;
 mod faults;
+mod lines;
 mod reading;
 mod reply;
 mod tables;
@@ -17,6 +18,7 @@ mod writing;
 
 pub use command::Command;
 pub use faults::{EventFault, PlanFault, StepFault};
+pub use lines::answer_text;
 pub use reading::decode;
 pub use reply::{Item, Items, Place, Reply};
 pub use tables::{FieldType, Table};
