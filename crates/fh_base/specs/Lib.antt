@@ -9,3 +9,4 @@ pub mod PlainFields
 pub mod BlobNames
 pub mod Moments
 pub mod Rules
+pub mod Poison
