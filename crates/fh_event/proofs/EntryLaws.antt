@@ -229,6 +229,13 @@ kind_byte_again k rest = refl
 
 -- ---- entries
 
+-- the parts that were taken, put together
+spelled_so : (bytes front : List ℕ) (kind n : ℕ) (fields rest : List ℕ) → bytes ≡ (front ++ kind ∷ fields) ++ rest → rest ≡ [] → n ≡ kind
+    → bytes ≡ front ++ n ∷ fields
+spelled_so bytes front kind n fields rest parts none same =
+    parts ∙ ap (λ (t : List ℕ). (front ++ kind ∷ fields) ++ t) none ∙ append-nil (front ++ kind ∷ fields)
+    ∙ ap (λ (m : ℕ). front ++ m ∷ fields) (sym same)
+
 pub is_read : (bytes : List ℕ) (x : ℕ × Command) → IsBytes bytes → entry_read bytes ≡ Ok x → IsEntry bytes x.0 x.1
 unfolding entry_read
 is_read bytes x fits e =
@@ -242,10 +249,8 @@ is_read bytes x fits e =
     let none-left : d.0.1 ≡ [] = nil_from_length d.0.1 (eqb-true _ _ g.0) in
     let behind = Takes-then a.0.1 (b.0.0 ∷ []) b.0.1 (flat_map spelled (fields_of d.0.0)) d.0.1 kind command.taken in
     let all = Takes-then bytes (number_bytes a.0.0) a.0.1 ((b.0.0 ∷ []) ++ flat_map spelled (fields_of d.0.0)) d.0.1 moment.0 behind in
-    let spelling : bytes ≡ entry a.0.0 d.0.0 = all.parts
-        ∙ ap (λ (rest : List ℕ). (number_bytes a.0.0 ++ b.0.0 ∷ flat_map spelled (fields_of d.0.0)) ++ rest) none-left
-        ∙ append-nil _
-        ∙ ap (λ (n : ℕ). number_bytes a.0.0 ++ n ∷ flat_map spelled (fields_of d.0.0)) (sym command.kind) in
+    let spelling : bytes ≡ entry a.0.0 d.0.0
+        = spelled_so bytes (number_bytes a.0.0) b.0.0 (kind_number (kind_of d.0.0)) (flat_map spelled (fields_of d.0.0)) d.0.1 all.parts none-left command.kind in
     let whole : IsEntry bytes a.0.0 d.0.0 = record { spelling = spelling; in_time = moment.1; fields = command.are_fields } in
     subst (λ (y : ℕ × Command). IsEntry bytes y.0 y.1) g.1 whole
 
@@ -257,3 +262,9 @@ read_again bytes moment c h =
           kind_byte_again (kind_number (kind_of c)) (flat_map spelled (fields_of c)),
           command_again c h.fields)
       refl
+
+-- no bytes are two entries
+pub is_one_entry : (bytes : List ℕ) (m n : ℕ) (c d : Command) → IsEntry bytes m c → IsEntry bytes n d → (m ≡ n) × (c ≡ d)
+is_one_entry bytes m n c d first second =
+    let same : (m, c) ≡ (n, d) = ok_is (m, c) (n, d) (sym (read_again bytes m c first) ∙ read_again bytes n d second) in
+    (ap (λ (x : ℕ × Command). x.0) same, ap (λ (x : ℕ × Command). x.1) same)

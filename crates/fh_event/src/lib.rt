@@ -9,6 +9,7 @@
 
 mod command;
 mod faults;
+mod laws;
 mod lines;
 mod reading;
 mod reply;
@@ -18,9 +19,12 @@ mod writing;
 
 pub use command::Command;
 pub use faults::{EventFault, PlanFault, StepFault};
+pub use laws::{entries_have_one_reading, tables_are_those_of_the_grammar};
 pub use lines::answer_text;
 pub use reading::decode;
 pub use reply::{Item, Items, Place, Reply};
-pub use tables::{FieldType, Table};
+pub use tables::{
+    CLEAR, DELETE, FieldType, LOCATE, MAKE_QUEUE, PEEK, PUT, TAKE, Table, UPDATE,
+};
 pub use text::Text;
 pub use writing::encode;
