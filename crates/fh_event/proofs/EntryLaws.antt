@@ -19,7 +19,7 @@ use Rattle.fh_event.specs.Kinds.{Kind, make_queue, put, take, update, delete, cl
 use Rattle.fh_event.specs.Entries.{entry, IsEntry}
 use Rattle.fh_event.specs.Reading.{number_at, text_at, held_at, taken_at, command_of_kind, command_at, moment_at, kind_byte_at, entry_read}
 use Rattle.fh_event.proofs.Steps.{bind_ok, passed, ended, ok_is, IsBytes, IsBytes-rest, Takes, Takes-then}
-use Rattle.fh_event.proofs.FieldLaws.{wide64, number_takes, number_again, text_takes, text_again, maybe_number_takes, maybe_number_again, maybe_text_takes, maybe_text_again}
+use Rattle.fh_event.proofs.FieldLaws.{wide64, number_takes, number_again, Reads, numbers, texts, maybe}
 
 -- ---- a field of a type
 
@@ -29,21 +29,11 @@ field_of Words = words
 field_of MaybeNumber = maybe_number
 field_of MaybeWords = maybe_words
 
-held_takes : (type : FieldType) (i : ℕ) (bytes : List ℕ) (x : Held type × List ℕ) → IsBytes bytes → held_at type i bytes ≡ Ok x
-    → Takes bytes (spelled (field_of type x.0)) x.1 × IsField (field_of type x.0)
-unfolding number_bytes
-held_takes Number i bytes x fits e = number_takes w64 (2 ^ 64) wide64 i bytes x.0 x.1 fits e
-held_takes Words i bytes x fits e = text_takes i bytes x fits e
-held_takes MaybeNumber i bytes x fits e = maybe_number_takes i bytes x fits e
-held_takes MaybeWords i bytes x fits e = maybe_text_takes i bytes x fits e
-
-held_again : (type : FieldType) (i : ℕ) (v : Held type) (rest : List ℕ) → IsField (field_of type v)
-    → held_at type i (spelled (field_of type v) ++ rest) ≡ Ok (v, rest)
-unfolding number_bytes
-held_again Number i v rest h = number_again w64 (2 ^ 64) wide64 i v rest h
-held_again Words i v rest h = text_again i v rest h
-held_again MaybeNumber i v rest h = maybe_number_again i v rest h
-held_again MaybeWords i v rest h = maybe_text_again i v rest h
+reads : (type : FieldType) (i : ℕ) → Reads (held_at type i) (λ v. spelled (field_of type v)) (λ v. IsField (field_of type v))
+reads Number i = numbers i
+reads Words i = texts i
+reads MaybeNumber i = maybe (number_at w64 i) number_bytes (λ n. n < 2 ^ 64) (numbers i) i
+reads MaybeWords i = maybe (text_at i) text_bytes IsText (texts i) i
 
 -- ---- the fields of a table
 
@@ -73,7 +63,7 @@ fields_take [] command i bytes x fits e =
     (record { values = tt; command_is = refl; taken = record { parts = refl; rest_fits = fits }; are_fields = tt })
 fields_take (type ∷ types) taking i bytes x fits e =
     let b = bind_ok (held_at type i bytes) (λ v. taken_at types (taking v.0) (i + 1) v.1) x e in
-    let first = held_takes type i bytes b.0 fits b.1 in
+    let first = (reads type i).takes bytes b.0 fits b.1 in
     let others = fields_take types (taking b.0.0) (i + 1) b.0.1 x first.0.rest_fits b.2 in
     record {
       values = (b.0.0, others.values);
@@ -91,7 +81,7 @@ fields_again (type ∷ types) taking i values rest h =
     let regrouped : (spelled (field_of type values.0) ++ others) ++ rest ≡ spelled (field_of type values.0) ++ (others ++ rest)
         = append_assoc (spelled (field_of type values.0)) others rest in
     ap (taken_at (type ∷ types) taking i) regrouped
-    ∙ ap (λ (r : Result (Held type × List ℕ) EventFault). r >>= λ x. taken_at types (taking x.0) (i + 1) x.1) (held_again type i values.0 (others ++ rest) h.0)
+    ∙ ap (λ (r : Result (Held type × List ℕ) EventFault). r >>= λ x. taken_at types (taking x.0) (i + 1) x.1) ((reads type i).again values.0 (others ++ rest) h.0)
     ∙ fields_again types (taking values.0) (i + 1) values.1 rest h.1
 
 -- ---- the kinds

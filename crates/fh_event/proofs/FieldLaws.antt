@@ -11,7 +11,7 @@ use Rattle.fh_event.specs.declared.faults.EventFault.{EventFault}
 use Rattle.fh_event.specs.declared.faults.EventFault.TheVariants.{ShortField, LongField, BadField}
 use Rattle.fh_event.specs.Answers.{◌>>=◌}
 use Rattle.fh_event.specs.Fields.{number_bytes, text_bytes, maybe_bytes, text_limit, IsText}
-use Rattle.fh_event.specs.Reading.{number_at, text_of_length, text_at, maybe_number_at, maybe_text_at}
+use Rattle.fh_event.specs.Reading.{number_at, text_of_length, text_at, flag_at, behind_flag, maybe_at}
 use Rattle.fh_event.proofs.Steps.{bind_ok, passed, ended, ok_is, IsBytes, IsBytes-drop, IsBytes-take, IsBytes-rest, Takes, Takes-then, Takes-one}
 
 -- ---- numbers
@@ -107,44 +107,84 @@ text_again field text rest h =
     let short = h.short in
     rw (number_again w32 (2 ^ 32) wide32 field (length text) (text ++ rest) (omega arith)) (length_again field text rest h)
 
+-- ---- readers
+
+-- what the reader takes from the front is the bytes of a value that fits, and these are read again
+pub record Reads {X : Type 0} (reader : List ℕ → Result (X × List ℕ) EventFault) (bytes_of : X → List ℕ) (Fits : X → Type 0) : Type 0 where
+  pub takes : (bytes : List ℕ) (x : X × List ℕ) → IsBytes bytes → reader bytes ≡ Ok x → Takes bytes (bytes_of x.0) x.1 × Fits x.0
+  pub again : (x : X) (rest : List ℕ) → Fits x → reader (bytes_of x ++ rest) ≡ Ok (x, rest)
+
+pub numbers : (field : ℕ) → Reads (number_at w64 field) number_bytes (λ n. n < 2 ^ 64)
+unfolding number_bytes
+numbers field = record {
+  takes = λ bytes x fits e. number_takes w64 (2 ^ 64) wide64 field bytes x.0 x.1 fits e;
+  again = λ n rest h. number_again w64 (2 ^ 64) wide64 field n rest h;
+}
+
+pub texts : (field : ℕ) → Reads (text_at field) text_bytes IsText
+texts field = record {
+  takes = λ bytes x fits e. text_takes field bytes x fits e;
+  again = λ text rest h. text_again field text rest h;
+}
+
 -- ---- values behind a first byte
 
-pub maybe_number_takes : (field : ℕ) (bytes : List ℕ) (x : Option ℕ × List ℕ) → IsBytes bytes → maybe_number_at field bytes ≡ Ok x
-    → Takes bytes (maybe_bytes number_bytes x.0) x.1 × IfSome x.0 (λ n. n < 2 ^ 64)
-unfolding maybe_number_at maybe_bytes number_bytes
-maybe_number_takes field [] x fits e = absurd cc
-maybe_number_takes field (zero ∷ bytes) x fits e =
-    subst (λ (y : Option ℕ × List ℕ). Takes (0 ∷ bytes) (maybe_bytes number_bytes y.0) y.1 × IfSome y.0 (λ n. n < 2 ^ 64)) (ok_is (None, bytes) x e)
-    (record { parts = refl; rest_fits = IsBytes-rest 0 bytes fits }, tt)
-maybe_number_takes field (suc zero ∷ bytes) x fits e =
-    let b = bind_ok (number_at w64 field bytes) (λ n. Ok (Some n.0, n.1)) x e in
-    let t = number_takes w64 (2 ^ 64) wide64 field bytes b.0.0 b.0.1 (IsBytes-rest 1 bytes fits) b.1 in
-    subst (λ (y : Option ℕ × List ℕ). Takes (1 ∷ bytes) (maybe_bytes number_bytes y.0) y.1 × IfSome y.0 (λ n. n < 2 ^ 64)) (ok_is (Some b.0.0, b.0.1) x b.2)
-    (Takes-one 1 bytes (to_be_bytes w64 b.0.0) b.0.1 t.0, t.1)
-maybe_number_takes field (suc (suc b) ∷ bytes) x fits e = absurd cc
+-- the byte of a flag
+abbrev flag_byte : Bool → ℕ
+flag_byte false = 0
+flag_byte true = 1
 
-pub maybe_number_again : (field : ℕ) (n : Option ℕ) (rest : List ℕ) → IfSome n (λ m. m < 2 ^ 64)
-    → maybe_number_at field (maybe_bytes number_bytes n ++ rest) ≡ Ok (n, rest)
-unfolding maybe_number_at maybe_bytes number_bytes
-maybe_number_again field None rest h = refl
-maybe_number_again field (Some n) rest h = rw (number_again w64 (2 ^ 64) wide64 field n rest h) refl
+flag_takes : (field : ℕ) (bytes : List ℕ) (x : Bool × List ℕ) → IsBytes bytes → flag_at field bytes ≡ Ok x
+    → Takes bytes (flag_byte x.0 ∷ []) x.1
+unfolding flag_at
+flag_takes field [] x fits e = absurd cc
+flag_takes field (zero ∷ bytes) x fits e =
+    subst (λ (y : Bool × List ℕ). Takes (0 ∷ bytes) (flag_byte y.0 ∷ []) y.1) (ok_is (false, bytes) x e)
+    (record { parts = refl; rest_fits = IsBytes-rest 0 bytes fits })
+flag_takes field (suc zero ∷ bytes) x fits e =
+    subst (λ (y : Bool × List ℕ). Takes (1 ∷ bytes) (flag_byte y.0 ∷ []) y.1) (ok_is (true, bytes) x e)
+    (record { parts = refl; rest_fits = IsBytes-rest 1 bytes fits })
+flag_takes field (suc (suc b) ∷ bytes) x fits e = absurd cc
 
-pub maybe_text_takes : (field : ℕ) (bytes : List ℕ) (x : Option (List ℕ) × List ℕ) → IsBytes bytes → maybe_text_at field bytes ≡ Ok x
-    → Takes bytes (maybe_bytes text_bytes x.0) x.1 × IfSome x.0 IsText
-unfolding maybe_text_at maybe_bytes
-maybe_text_takes field [] x fits e = absurd cc
-maybe_text_takes field (zero ∷ bytes) x fits e =
-    subst (λ (y : Option (List ℕ) × List ℕ). Takes (0 ∷ bytes) (maybe_bytes text_bytes y.0) y.1 × IfSome y.0 IsText) (ok_is (None, bytes) x e)
-    (record { parts = refl; rest_fits = IsBytes-rest 0 bytes fits }, tt)
-maybe_text_takes field (suc zero ∷ bytes) x fits e =
-    let b = bind_ok (text_at field bytes) (λ t. Ok (Some t.0, t.1)) x e in
-    let t = text_takes field bytes b.0 (IsBytes-rest 1 bytes fits) b.1 in
-    subst (λ (y : Option (List ℕ) × List ℕ). Takes (1 ∷ bytes) (maybe_bytes text_bytes y.0) y.1 × IfSome y.0 IsText) (ok_is (Some b.0.0, b.0.1) x b.2)
-    (Takes-one 1 bytes (text_bytes b.0.0) b.0.1 t.0, t.1)
-maybe_text_takes field (suc (suc b) ∷ bytes) x fits e = absurd cc
+flag_again : (field : ℕ) (flag : Bool) (rest : List ℕ) → flag_at field (flag_byte flag ∷ rest) ≡ Ok (flag, rest)
+unfolding flag_at
+flag_again field false rest = refl
+flag_again field true rest = refl
 
-pub maybe_text_again : (field : ℕ) (text : Option (List ℕ)) (rest : List ℕ) → IfSome text IsText
-    → maybe_text_at field (maybe_bytes text_bytes text ++ rest) ≡ Ok (text, rest)
-unfolding maybe_text_at maybe_bytes
-maybe_text_again field None rest h = refl
-maybe_text_again field (Some text) rest h = rw (text_again field text rest h) refl
+behind_takes : {X : Type 0} (reader : List ℕ → Result (X × List ℕ) EventFault) (bytes_of : X → List ℕ) (Fits : X → Type 0)
+    → Reads reader bytes_of Fits → (flag : Bool) (bytes : List ℕ) (x : Option X × List ℕ) → IsBytes bytes
+    → behind_flag reader flag bytes ≡ Ok x → Takes (flag_byte flag ∷ bytes) (maybe_bytes bytes_of x.0) x.1 × IfSome x.0 Fits
+unfolding maybe_bytes
+behind_takes {X} reader bytes_of Fits reads false bytes x fits e =
+    subst (λ (y : Option X × List ℕ). Takes (0 ∷ bytes) (maybe_bytes bytes_of y.0) y.1 × IfSome y.0 Fits) (ok_is (None, bytes) x e)
+    (record { parts = refl; rest_fits = fits }, tt)
+behind_takes {X} reader bytes_of Fits reads true bytes x fits e =
+    let b = bind_ok (reader bytes) (λ v. Ok (Some v.0, v.1)) x e in
+    let t = reads.takes bytes b.0 fits b.1 in
+    subst (λ (y : Option X × List ℕ). Takes (1 ∷ bytes) (maybe_bytes bytes_of y.0) y.1 × IfSome y.0 Fits) (ok_is (Some b.0.0, b.0.1) x b.2)
+    (Takes-one 1 bytes (bytes_of b.0.0) b.0.1 t.0, t.1)
+
+maybe_takes : {X : Type 0} (reader : List ℕ → Result (X × List ℕ) EventFault) (bytes_of : X → List ℕ) (Fits : X → Type 0)
+    → Reads reader bytes_of Fits → (field : ℕ) (bytes : List ℕ) (x : Option X × List ℕ) → IsBytes bytes
+    → maybe_at reader field bytes ≡ Ok x → Takes bytes (maybe_bytes bytes_of x.0) x.1 × IfSome x.0 Fits
+unfolding maybe_at
+maybe_takes reader bytes_of Fits reads field bytes x fits e =
+    let b = bind_ok (flag_at field bytes) (λ flag. behind_flag reader flag.0 flag.1) x e in
+    let flag = flag_takes field bytes b.0 fits b.1 in
+    let t = behind_takes reader bytes_of Fits reads b.0.0 b.0.1 x flag.rest_fits b.2 in
+    (record { parts = flag.parts ∙ t.0.parts; rest_fits = t.0.rest_fits }, t.1)
+
+maybe_again : {X : Type 0} (reader : List ℕ → Result (X × List ℕ) EventFault) (bytes_of : X → List ℕ) (Fits : X → Type 0)
+    → Reads reader bytes_of Fits → (field : ℕ) (o : Option X) (rest : List ℕ) → IfSome o Fits
+    → maybe_at reader field (maybe_bytes bytes_of o ++ rest) ≡ Ok (o, rest)
+unfolding maybe_at maybe_bytes
+maybe_again reader bytes_of Fits reads field None rest h = rw (flag_again field false rest) refl
+maybe_again reader bytes_of Fits reads field (Some x) rest h =
+    rw (flag_again field true (bytes_of x ++ rest), reads.again x rest h) refl
+
+pub maybe : {X : Type 0} (reader : List ℕ → Result (X × List ℕ) EventFault) (bytes_of : X → List ℕ) (Fits : X → Type 0)
+    → Reads reader bytes_of Fits → (field : ℕ) → Reads (maybe_at reader field) (maybe_bytes bytes_of) (λ o. IfSome o Fits)
+maybe reader bytes_of Fits reads field = record {
+  takes = λ bytes x fits e. maybe_takes reader bytes_of Fits reads field bytes x fits e;
+  again = λ o rest h. maybe_again reader bytes_of Fits reads field o rest h;
+}

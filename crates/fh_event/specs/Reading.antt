@@ -1,6 +1,6 @@
 -- Reading an entry from left to right, with the first fault that is met. A field is answered with the
 -- bytes behind it.
-use Rattle.std.specs.Prelude.{ℕ, zero, suc, ◌+◌, ◌==◌, nat_lt, if◌then◌else◌, List, [], ◌∷◌, length, take, drop, Option, Some, None, Result, Ok, Err}
+use Rattle.std.specs.Prelude.{ℕ, zero, suc, ◌+◌, ◌==◌, nat_lt, Bool, true, false, if◌then◌else◌, List, [], ◌∷◌, length, take, drop, Option, Some, None, Result, Ok, Err}
 use Rattle.std.specs.Int.{Width, w32, w64, byte_len, from_be_bytes}
 use Rattle.std.specs.Str.{is_utf8}
 use Rattle.fh_base.specs.Moments.{greatest_moment}
@@ -30,27 +30,26 @@ text_at field bytes = do
   n ← number_at w32 field bytes
   text_of_length field n.0 n.1
 
-unfoldable pub maybe_number_at : ℕ → List ℕ → Result (Option ℕ × List ℕ) EventFault
-maybe_number_at field [] = Err (ShortField field)
-maybe_number_at field (zero ∷ rest) = Ok (None, rest)
-maybe_number_at field (suc zero ∷ rest) = do
-  n ← number_at w64 field rest
-  Ok (Some n.0, n.1)
-maybe_number_at field (suc (suc b) ∷ rest) = Err (BadField field)
+-- a byte 0 or 1
+unfoldable pub flag_at : ℕ → List ℕ → Result (Bool × List ℕ) EventFault
+flag_at field [] = Err (ShortField field)
+flag_at field (zero ∷ rest) = Ok (false, rest)
+flag_at field (suc zero ∷ rest) = Ok (true, rest)
+flag_at field (suc (suc b) ∷ rest) = Err (BadField field)
 
-unfoldable pub maybe_text_at : ℕ → List ℕ → Result (Option (List ℕ) × List ℕ) EventFault
-maybe_text_at field [] = Err (ShortField field)
-maybe_text_at field (zero ∷ rest) = Ok (None, rest)
-maybe_text_at field (suc zero ∷ rest) = do
-  text ← text_at field rest
-  Ok (Some text.0, text.1)
-maybe_text_at field (suc (suc b) ∷ rest) = Err (BadField field)
+abbrev pub behind_flag : {X : Type 0} → (List ℕ → Result (X × List ℕ) EventFault) → Bool → List ℕ → Result (Option X × List ℕ) EventFault
+behind_flag reader false rest = Ok (None, rest)
+behind_flag reader true rest = reader rest >>= λ x. Ok (Some x.0, x.1)
+
+-- a byte 0, or a byte 1 and what the reader reads
+unfoldable pub maybe_at : {X : Type 0} → (List ℕ → Result (X × List ℕ) EventFault) → ℕ → List ℕ → Result (Option X × List ℕ) EventFault
+maybe_at reader field bytes = flag_at field bytes >>= λ flag. behind_flag reader flag.0 flag.1
 
 abbrev pub held_at : (type : FieldType) → ℕ → List ℕ → Result (Held type × List ℕ) EventFault
 held_at Number field bytes = number_at w64 field bytes
 held_at Words field bytes = text_at field bytes
-held_at MaybeNumber field bytes = maybe_number_at field bytes
-held_at MaybeWords field bytes = maybe_text_at field bytes
+held_at MaybeNumber field bytes = maybe_at (number_at w64 field) field bytes
+held_at MaybeWords field bytes = maybe_at (text_at field) field bytes
 
 -- the fields of these types in order, counted on from a first
 abbrev pub taken_at : (types : List FieldType) → Taking types → ℕ → List ℕ → Result (Command × List ℕ) EventFault

@@ -3,7 +3,7 @@ ghost use Rattle.std.specs.Prelude.{◌≡◌, ℕ, true, false, Ok, IfOk, Match
 ghost use Rattle.std.specs.Str.{is_utf8};
 ghost use Rattle.std.specs.Int.{w32, w64};
 ghost use Rattle.fh_event.specs.Answers.{Gives};
-ghost use Rattle.fh_event.specs.Reading.{number_at, text_at, maybe_number_at, maybe_text_at, command_at, kind_byte_at, entry_read};
+ghost use Rattle.fh_event.specs.Reading.{number_at, text_at, flag_at, maybe_at, command_at, kind_byte_at, entry_read};
 ghost use Rattle.fh_event.specs.Entries.{IsEntry};
 
 use crate::command::Command;
@@ -82,34 +82,44 @@ fn utf8_of(bytes: &[u8]) -> Option<&str>
     }
 }
 
-#[tactic(auto, unfolding(crate::specs::Reading::maybe_number_at))]
-fn maybe_number_of(field: u8, bytes: &[u8]) -> Result<(Option<u64>, &[u8]), EventFault>
-    ensures { Gives (λ x. (x.0, x.1.now)) result (maybe_number_at field bytes.now) }
+#[tactic(auto, unfolding(crate::specs::Reading::flag_at))]
+fn flag_of(field: u8, bytes: &[u8]) -> Result<(bool, &[u8]), EventFault>
+    ensures { Gives (λ x. (x.0, x.1.now)) result (flag_at field bytes.now) }
 {
     match bytes {
         [] => Err(EventFault::ShortField { field }),
-        [0, rest @ ..] => Ok((None, rest)),
-        [1, rest @ ..] => {
-            let (number, rest) = number_of(field, rest)?;
-            Ok((Some(number), rest))
-        }
+        [0, rest @ ..] => Ok((false, rest)),
+        [1, rest @ ..] => Ok((true, rest)),
         [_, ..] => Err(EventFault::BadField { field }),
     }
 }
 
-#[tactic(auto, unfolding(crate::specs::Reading::maybe_text_at))]
-fn maybe_text_of(alloc: Global, field: u8, bytes: &[u8]) -> Result<(Option<Text>, &[u8]), EventFault>
-    ensures { Gives (λ x. (x.0, x.1.now)) result (maybe_text_at field bytes.now) }
+#[tactic(auto, unfolding(crate::specs::Reading::maybe_at))]
+fn maybe_number_of(field: u8, bytes: &[u8]) -> Result<(Option<u64>, &[u8]), EventFault>
+    ensures { Gives (λ x. (x.0, x.1.now)) result (maybe_at (number_at w64 field) field bytes.now) }
 {
-    match bytes {
-        [] => Err(EventFault::ShortField { field }),
-        [0, rest @ ..] => Ok((None, rest)),
-        [1, rest @ ..] => {
-            let (text, rest) = text_of(alloc, field, rest)?;
-            Ok((Some(text), rest))
-        }
-        [_, ..] => Err(EventFault::BadField { field }),
+    let (is_there, rest) = flag_of(field, bytes)?;
+    if !is_there {
+        return Ok((None, rest));
     }
+    let (number, rest) = number_of(field, rest)?;
+    Ok((Some(number), rest))
+}
+
+#[tactic(auto, unfolding(crate::specs::Reading::maybe_at))]
+fn maybe_text_of(
+    alloc: Global,
+    field: u8,
+    bytes: &[u8],
+) -> Result<(Option<Text>, &[u8]), EventFault>
+    ensures { Gives (λ x. (x.0, x.1.now)) result (maybe_at (text_at field) field bytes.now) }
+{
+    let (is_there, rest) = flag_of(field, bytes)?;
+    if !is_there {
+        return Ok((None, rest));
+    }
+    let (text, rest) = text_of(alloc, field, rest)?;
+    Ok((Some(text), rest))
 }
 
 // Reads the fields of a table in order, and makes the command of them.
