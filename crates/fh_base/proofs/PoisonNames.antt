@@ -1,5 +1,5 @@
 -- A queue's name with the poison ending is a queue's name.
-use Rattle.std.proofs.Common.{◌≡◌, ℕ, zero, suc, ◌+◌, ◌-◌, ◌<◌, ◌≤◌, Bool, true, false, cond, leb, ltb, eqb, Option, Some, None, List, [], ◌∷◌, ◌++◌, length, get_or, take, drop, refl, sym, ap, ◌∙◌, append_assoc, arith, length-append}
+use Rattle.std.proofs.Common.{◌≡◌, ℕ, suc, ◌+◌, ◌-◌, ◌<◌, ◌≤◌, Bool, true, false, leb, ltb, eqb, Option, Some, None, List, [], ◌∷◌, ◌++◌, length, get_or, take, drop, refl, sym, ap, ◌∙◌, append_assoc, arith, length-append}
 use Rattle.std.specs.Prelude.{not, ◌&&◌, ◌||◌, MatchOption}
 use Rattle.std.specs.List.{list_all, ends_with}
 use Rattle.std.proofs.lemmas.Bool.{leb-true, le-leb, le-ltb, eqb-true}
@@ -54,7 +54,7 @@ joined (c ∷ d ∷ rest) some last none =
     let parts = neither (is_dash c && is_dash d) (has_two_dashes_together (d ∷ rest)) none in
     let before : length (c ∷ d ∷ rest) - 1 ≡ suc (length (d ∷ rest) - 1) = omega arith in
     let same : get_or (c ∷ d ∷ rest) (length (c ∷ d ∷ rest) - 1) 0 ≡ get_or (d ∷ rest) (length (d ∷ rest) - 1) 0
-        = ap (λ (i : ℕ). get_or (c ∷ d ∷ rest) i 0) before in
+    = ap (λ (i : ℕ). get_or (c ∷ d ∷ rest) i 0) before in
     let there : 0 < length (d ∷ rest) = omega arith in
     neither_both (is_dash c && is_dash d) (has_two_dashes_together ((d ∷ rest) ++ poison_ending)) parts.0
     (joined (d ∷ rest) there (ap is_dash (sym same) ∙ last) parts.1)
@@ -75,17 +75,17 @@ is_name text name short =
     let new-least : 3 ≤ length (text ++ poison_ending) = omega arith in
     let new-most : length (text ++ poison_ending) ≤ 63 = omega arith in
     let new-sized : has_queue_length (text ++ poison_ending) ≡ true
-        = both_true (leb 3 (length (text ++ poison_ending))) (leb (length (text ++ poison_ending)) 63) (le-leb 3 (length (text ++ poison_ending)) new-least) (le-leb (length (text ++ poison_ending)) 63 new-most) in
+    = both_true (leb 3 (length (text ++ poison_ending))) (leb (length (text ++ poison_ending)) 63) (le-leb 3 (length (text ++ poison_ending)) new-least) (le-leb (length (text ++ poison_ending)) 63 new-most) in
     let new-characters : list_all (λ c. is_letter_or_digit c || is_dash c) (text ++ poison_ending) ≡ true
-        = list_all-append (λ (c : ℕ). is_letter_or_digit c || is_dash c) text poison_ending ∙ both_true (list_all (λ c. is_letter_or_digit c || is_dash c) text) true characters refl in
+    = list_all-append (λ (c : ℕ). is_letter_or_digit c || is_dash c) text poison_ending ∙ both_true (list_all (λ c. is_letter_or_digit c || is_dash c) text) true characters refl in
     let same-first : get_or (text ++ poison_ending) 0 0 ≡ get_or text 0 0 = get_or_append_left text poison_ending 0 0 there in
     let last-at : length (text ++ poison_ending) - 1 ≡ length text + 6 = omega arith in
     let same-last : get_or (text ++ poison_ending) (length (text ++ poison_ending) - 1) 0 ≡ 110
-        = ap (λ (i : ℕ). get_or (text ++ poison_ending) i 0) last-at ∙ get_or-append-add text poison_ending 6 0 in
+    = ap (λ (i : ℕ). get_or (text ++ poison_ending) i 0) last-at ∙ get_or-append-add text poison_ending 6 0 in
     let new-firm : has_firm_ends (text ++ poison_ending) ≡ true
-        = both_true (is_letter_or_digit (get_or (text ++ poison_ending) 0 0)) (is_letter_or_digit (get_or (text ++ poison_ending) (length (text ++ poison_ending) - 1) 0)) (ap is_letter_or_digit same-first ∙ firm-first) (ap is_letter_or_digit same-last) in
+    = both_true (is_letter_or_digit (get_or (text ++ poison_ending) 0 0)) (is_letter_or_digit (get_or (text ++ poison_ending) (length (text ++ poison_ending) - 1) 0)) (ap is_letter_or_digit same-first ∙ firm-first) (ap is_letter_or_digit same-last) in
     let new-none : has_two_dashes_together (text ++ poison_ending) ≡ false
-        = joined text there (firm_is_no_dash (get_or text (length text - 1) 0) firm-last) none in
+    = joined text there (firm_is_no_dash (get_or text (length text - 1) 0) firm-last) none in
     both_true _ _ (both_true _ _ (both_true _ _ new-sized new-characters) new-firm) (ap not new-none)
 
 -- a name, and the ending behind it, put into zeros

@@ -1,9 +1,9 @@
 -- A plain name as a padded array and a length.
-use Rattle.std.specs.Prelude.{◌≡◌, ℕ, ◌+◌, ◌-◌, ◌≤◌, nat_le, List, length, take, drop, ◌++◌, replicate, Bool, true, false, ◌&&◌, refl}
-use Rattle.std.proofs.Common.{ap, arith, length-take}
-use Rattle.std.proofs.lemmas.List.{take-append-drop, length-take-le}
+use Rattle.std.specs.Prelude.{◌≡◌, ℕ, ◌-◌, ◌≤◌, List, length, take, drop, ◌++◌, replicate, Bool, true, false, ◌&&◌, refl}
+use Rattle.std.proofs.Common.{arith, length-take}
+use Rattle.std.proofs.lemmas.List.{take-append-drop}
 use Rattle.std.proofs.lemmas.Bool.{leb-true}
-use Rattle.fh_base.specs.PlainNames.{begins_with_letter, is_plain_name}
+use Rattle.fh_base.specs.PlainNames.{is_plain_name}
 use Rattle.fh_base.specs.declared.plain_name.PlainName.TheInside.{Inside}
 
 abbrev pub name_of : Inside → List ℕ

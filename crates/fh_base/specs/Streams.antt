@@ -1,5 +1,5 @@
 -- What a source and a sink say of their calls, beside std's words on bytes.
-use Rattle.std.specs.Prelude.{◌≡◌, ℕ, ◌+◌, ◌<◌, ◌≤◌, List, length, Result, Ok, Err, IfOk}
+use Rattle.std.specs.Prelude.{◌≡◌, ℕ, ◌+◌, ◌<◌, ◌≤◌, List, length, Result, Ok, Err}
 
 -- a read lowers the most that may still come by at least what it gives
 abbrev pub Lowers : {E : Type 0} → ℕ → ℕ → Result ℕ E → Type 0

@@ -32,3 +32,6 @@ pub use rule::Rule;
 pub use sink::{MemorySink, Sink, StreamSink};
 pub use source::{MemorySource, Source, StreamSource};
 pub use status::Status;
+
+#[cfg(test)]
+mod tests;

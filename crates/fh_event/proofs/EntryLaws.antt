@@ -1,7 +1,7 @@
 -- The two laws of the codec: what is read is an entry, and an entry is read. They go over the tables of
 -- fields once; what a kind adds is its case in `agrees`, `values_of` and `rebuilt`.
-use Rattle.std.proofs.Common.{◌≡◌, ℕ, zero, suc, ◌+◌, ◌^◌, ◌<◌, ◌≤◌, Bool, true, false, cond, eqb, ltb, List, [], ◌∷◌, ◌++◌, length, Option, Some, None, Result, Ok, Err, refl, sym, ap, subst, ◌∙◌, append_assoc, arith}
-use Rattle.std.specs.Prelude.{find, IfSome}
+use Rattle.std.proofs.Common.{◌≡◌, ℕ, ◌+◌, ◌^◌, ◌<◌, ◌≤◌, Bool, true, false, cond, eqb, ltb, List, [], ◌∷◌, ◌++◌, length, Option, Some, None, Result, Ok, Err, refl, sym, ap, subst, ◌∙◌, append_assoc, arith}
+use Rattle.std.specs.Prelude.{find}
 use Rattle.std.specs.List.{flat_map, AllByRecursion}
 use Rattle.std.specs.Int.{w64, to_be_bytes}
 use Rattle.std.proofs.lemmas.Bool.{eqb-true, ltb-false, le-ltb}
@@ -10,11 +10,11 @@ use Rattle.fh_base.specs.Moments.{greatest_moment}
 use Rattle.fh_event.specs.declared.command.Command.{Command}
 use Rattle.fh_event.specs.declared.command.Command.TheVariants.{MakeQueue, Put, Take, Update, Delete, Clear, Peek, Locate}
 use Rattle.fh_event.specs.declared.faults.EventFault.{EventFault}
-use Rattle.fh_event.specs.declared.faults.EventFault.TheVariants.{BadKind, BadField, Trailing}
+use Rattle.fh_event.specs.declared.faults.EventFault.TheVariants.{BadField, Trailing}
 use Rattle.fh_event.specs.declared.tables.FieldType.{FieldType}
 use Rattle.fh_event.specs.declared.tables.FieldType.TheVariants.{Number, Words, MaybeNumber, MaybeWords}
-use Rattle.fh_event.specs.Answers.{◌>>=◌, Gives}
-use Rattle.fh_event.specs.Fields.{Field, number, words, maybe_number, maybe_words, number_bytes, text_bytes, maybe_bytes, spelled, IsText, IsField}
+use Rattle.fh_event.specs.Answers.{◌>>=◌}
+use Rattle.fh_event.specs.Fields.{Field, number, words, maybe_number, maybe_words, number_bytes, text_bytes, spelled, IsText, IsField}
 use Rattle.fh_event.specs.Kinds.{Kind, make_queue, put, take, update, delete, clear, peek, locate, kind_number, kind_of, fields_of, all_kinds, kind_at, types_of, Held, Taking, made}
 use Rattle.fh_event.specs.Entries.{entry, IsEntry}
 use Rattle.fh_event.specs.Reading.{number_at, text_at, held_at, taken_at, command_of_kind, command_at, moment_at, kind_byte_at, entry_read}
@@ -79,7 +79,7 @@ fields_again [] command i values rest h = refl
 fields_again (type ∷ types) taking i values rest h =
     let others = flat_map spelled (fields_with types values.1) in
     let regrouped : (spelled (field_of type values.0) ++ others) ++ rest ≡ spelled (field_of type values.0) ++ (others ++ rest)
-        = append_assoc (spelled (field_of type values.0)) others rest in
+    = append_assoc (spelled (field_of type values.0)) others rest in
     ap (taken_at (type ∷ types) taking i) regrouped
     ∙ ap (λ (r : Result (Held type × List ℕ) EventFault). r >>= λ x. taken_at types (taking x.0) (i + 1) x.1) ((reads type i).again values.0 (others ++ rest) h.0)
     ∙ fields_again types (taking values.0) (i + 1) values.1 rest h.1
@@ -183,7 +183,7 @@ command_again c h =
     let fields-are = (rebuilt c).1 in
     let are-fields : AllByRecursion IsField (fields_with (types_of k) values) = subst (λ (fs : List Field). AllByRecursion IsField fs) (sym fields-are) h in
     let bytes-are : flat_map spelled (fields_of c) ≡ flat_map spelled (fields_with (types_of k) values) ++ []
-        = ap (flat_map spelled) (sym fields-are) ∙ sym (append-nil _) in
+    = ap (flat_map spelled) (sym fields-are) ∙ sym (append-nil _) in
     ap (λ (o : Option Kind). command_of_kind (kind_number k) o (flat_map spelled (fields_of c))) (found k)
     ∙ ap (taken_at (types_of k) (made k) 1) bytes-are
     ∙ fields_again (types_of k) (made k) 1 values [] are-fields
@@ -240,7 +240,7 @@ is_read bytes x fits e =
     let behind = Takes-then a.0.1 (b.0.0 ∷ []) b.0.1 (flat_map spelled (fields_of d.0.0)) d.0.1 kind command.taken in
     let all = Takes-then bytes (number_bytes a.0.0) a.0.1 ((b.0.0 ∷ []) ++ flat_map spelled (fields_of d.0.0)) d.0.1 moment.0 behind in
     let spelling : bytes ≡ entry a.0.0 d.0.0
-        = spelled_so bytes (number_bytes a.0.0) b.0.0 (kind_number (kind_of d.0.0)) (flat_map spelled (fields_of d.0.0)) d.0.1 all.parts none-left command.kind in
+    = spelled_so bytes (number_bytes a.0.0) b.0.0 (kind_number (kind_of d.0.0)) (flat_map spelled (fields_of d.0.0)) d.0.1 all.parts none-left command.kind in
     let whole : IsEntry bytes a.0.0 d.0.0 = record { spelling = spelling; in_time = moment.1; fields = command.are_fields } in
     subst (λ (y : ℕ × Command). IsEntry bytes y.0 y.1) g.1 whole
 
@@ -248,10 +248,12 @@ pub read_again : (bytes : List ℕ) (moment : ℕ) (c : Command) → IsEntry byt
 unfolding entry_read
 read_again bytes moment c h =
     ap entry_read h.spelling
-    ∙ rw (moment_again moment (kind_number (kind_of c) ∷ flat_map spelled (fields_of c)) h.in_time,
-          kind_byte_again (kind_number (kind_of c)) (flat_map spelled (fields_of c)),
-          command_again c h.fields)
-      refl
+    ∙ rw (
+      moment_again moment (kind_number (kind_of c) ∷ flat_map spelled (fields_of c)) h.in_time,
+      kind_byte_again (kind_number (kind_of c)) (flat_map spelled (fields_of c)),
+      command_again c h.fields,
+    )
+    refl
 
 -- no bytes are two entries
 pub is_one_entry : (bytes : List ℕ) (m n : ℕ) (c d : Command) → IsEntry bytes m c → IsEntry bytes n d → (m ≡ n) × (c ≡ d)

@@ -1,12 +1,11 @@
 -- The set of escaped bytes is that of the definition, so that the two ways of escaping agree.
-use Rattle.std.proofs.Common.{◌≡◌, ℕ, ◌+◌, ◌<◌, ◌≤◌, Bool, true, false, cond, leb, eqb, List, [], ◌∷◌, ◌++◌, get_or, refl, sym, ap, ◌∙◌, arith, inl, inr}
-use Rattle.std.specs.Prelude.{not, ◌||◌}
+use Rattle.std.proofs.Common.{◌≡◌, ℕ, ◌<◌, Bool, true, cond, List, [], ◌∷◌, ◌++◌, refl, ap, ◌∙◌}
 use Rattle.std.specs.List.{flat_map}
-use Rattle.std.proofs.lemmas.Bool.{agree_below, agree_below_at, cases_lt}
+use Rattle.std.proofs.lemmas.Bool.{agree_below, agree_below_at}
 use Rattle.percent_encoding.specs.Percent.{percent_encode, percent_encode_byte, encode_byte}
-use Rattle.percent_encoding.specs.AsciiSet.{contains, should_percent_encode}
+use Rattle.percent_encoding.specs.AsciiSet.{should_percent_encode}
 use Rattle.fh_event.specs.declared.lines.TheConstants.{ESCAPED}
-use Rattle.fh_event.specs.Lines.{is_escaped, escaped_byte, escaped}
+use Rattle.fh_event.specs.Lines.{is_escaped, escaped_byte}
 use Rattle.fh_event.proofs.Steps.{IsBytes, IsBytes-rest}
 
 same_set : agree_below (should_percent_encode ESCAPED) is_escaped 256 ≡ true

@@ -1,5 +1,5 @@
 -- What a reader answers against what reading gives.
-use Rattle.std.specs.Prelude.{◌≡◌, ℕ, Result, Ok, Err, ⊤}
+use Rattle.std.specs.Prelude.{◌≡◌, Result, Ok, Err, ⊤}
 use Rattle.fh_event.specs.declared.faults.EventFault.{EventFault}
 use Rattle.fh_event.specs.declared.faults.EventFault.TheVariants.{BadKind, ShortField, LongField, BadField, Trailing, NoMemory}
 

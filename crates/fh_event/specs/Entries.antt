@@ -3,7 +3,7 @@ use Rattle.std.specs.Prelude.{◌≡◌, ℕ, ◌≤◌, List, ◌∷◌, ◌++�
 use Rattle.std.specs.List.{flat_map, AllByRecursion}
 use Rattle.fh_base.specs.Moments.{greatest_moment}
 use Rattle.fh_event.specs.declared.command.Command.{Command}
-use Rattle.fh_event.specs.Fields.{Field, number_bytes, spelled, IsField, IsShort}
+use Rattle.fh_event.specs.Fields.{number_bytes, spelled, IsField, IsShort}
 use Rattle.fh_event.specs.Kinds.{kind_number, kind_of, fields_of}
 
 -- the moment in eight bytes, the kind in one, and the fields

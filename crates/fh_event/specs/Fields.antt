@@ -1,5 +1,5 @@
 -- The fields of an entry, and the one spelling of each.
-use Rattle.std.specs.Prelude.{◌≡◌, ℕ, ◌<◌, ◌≤◌, ◌^◌, List, [], ◌∷◌, ◌++◌, length, Option, Some, None, IfSome, ⊤, IsUtf8}
+use Rattle.std.specs.Prelude.{ℕ, ◌<◌, ◌≤◌, ◌^◌, List, [], ◌∷◌, ◌++◌, length, Option, Some, None, IfSome, ⊤, IsUtf8}
 use Rattle.std.specs.Int.{w32, w64, to_be_bytes}
 
 -- what stands in a field

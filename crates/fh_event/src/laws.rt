@@ -13,8 +13,7 @@ use crate::tables::{CLEAR, DELETE, LOCATE, MAKE_QUEUE, PEEK, PUT, TAKE, UPDATE};
 pub fn entries_have_one_reading()
     ensures one { (bytes : List ℕ) (m n : ℕ) (c d : Command) → IsEntry bytes m c → IsEntry bytes n d → (m ≡ n) × (c ≡ d) }
     ensures read { (m : ℕ) (c : Command) → IsEntry (entry m c) m c → entry_read (entry m c) ≡ Ok (m, c) }
-{
-}
+{}
 
 /// The tables are those of the grammar.
 pub fn tables_are_those_of_the_grammar()
@@ -26,5 +25,4 @@ pub fn tables_are_those_of_the_grammar()
     ensures clear { (CLEAR.kind ≡ kind_number clear) × (CLEAR.fields ≡ types_of clear) }
     ensures peek { (PEEK.kind ≡ kind_number peek) × (PEEK.fields ≡ types_of peek) }
     ensures locate { (LOCATE.kind ≡ kind_number locate) × (LOCATE.fields ≡ types_of locate) }
-{
-}
+{}

@@ -23,8 +23,9 @@ pub use laws::{entries_have_one_reading, tables_are_those_of_the_grammar};
 pub use lines::answer_text;
 pub use reading::decode;
 pub use reply::{Item, Items, Place, Reply};
-pub use tables::{
-    CLEAR, DELETE, FieldType, LOCATE, MAKE_QUEUE, PEEK, PUT, TAKE, Table, UPDATE,
-};
+pub use tables::{CLEAR, DELETE, FieldType, LOCATE, MAKE_QUEUE, PEEK, PUT, TAKE, Table, UPDATE};
 pub use text::Text;
 pub use writing::encode;
+
+#[cfg(test)]
+mod tests;

@@ -24,16 +24,19 @@ pub struct Table<const N: usize> {
 macro_rules! make_queue {
     ($with:ident $($args:tt)*) => { $with!([$($args)*] 1 MakeQueue { 1 queue: Words }) };
 }
+
 macro_rules! put {
     ($with:ident $($args:tt)*) => {
         $with!([$($args)*] 2 Put { 1 queue: Words, 2 delay: Number, 3 ttl: MaybeNumber, 4 text: Words })
     };
 }
+
 macro_rules! take {
     ($with:ident $($args:tt)*) => {
         $with!([$($args)*] 3 Take { 1 queue: Words, 2 count: Number, 3 hold: Number })
     };
 }
+
 macro_rules! update {
     ($with:ident $($args:tt)*) => {
         $with!([$($args)*] 4 Update {
@@ -41,22 +44,33 @@ macro_rules! update {
         })
     };
 }
+
 macro_rules! delete {
     ($with:ident $($args:tt)*) => {
         $with!([$($args)*] 5 Delete { 1 queue: Words, 2 number: Number, 3 receipt: Number })
     };
 }
+
 macro_rules! clear {
     ($with:ident $($args:tt)*) => { $with!([$($args)*] 6 Clear { 1 queue: Words }) };
 }
+
 macro_rules! peek {
     ($with:ident $($args:tt)*) => { $with!([$($args)*] 21 Peek { 1 queue: Words, 2 count: Number }) };
 }
+
 macro_rules! locate {
     ($with:ident $($args:tt)*) => { $with!([$($args)*] 23 Locate { 1 number: Number }) };
 }
 
-pub(crate) use {clear, delete, locate, make_queue, peek, put, take, update};
+pub(crate) use clear;
+pub(crate) use delete;
+pub(crate) use locate;
+pub(crate) use make_queue;
+pub(crate) use peek;
+pub(crate) use put;
+pub(crate) use take;
+pub(crate) use update;
 
 macro_rules! table {
     ([] $kind:literal $variant:ident { $($field:literal $name:ident: $type:ident),* }) => {
@@ -65,10 +79,17 @@ macro_rules! table {
 }
 
 pub const MAKE_QUEUE: Table<1> = make_queue!(table);
+
 pub const PUT: Table<4> = put!(table);
+
 pub const TAKE: Table<3> = take!(table);
+
 pub const UPDATE: Table<5> = update!(table);
+
 pub const DELETE: Table<3> = delete!(table);
+
 pub const CLEAR: Table<1> = clear!(table);
+
 pub const PEEK: Table<2> = peek!(table);
+
 pub const LOCATE: Table<1> = locate!(table);

@@ -6,8 +6,10 @@ ghost use Rattle.fh_event.specs.Kinds.{kind_number, kind_of, fields_of};
 ghost use Rattle.fh_event.specs.Entries.{entry, HasShortTexts, AppendsEntry, Extends};
 
 use crate::command::Command;
-use crate::tables::{clear, delete, locate, make_queue, peek, put, take, update};
-use crate::tables::{CLEAR, DELETE, LOCATE, MAKE_QUEUE, PEEK, PUT, TAKE, UPDATE};
+use crate::tables::{
+    CLEAR, DELETE, LOCATE, MAKE_QUEUE, PEEK, PUT, TAKE, UPDATE, clear, delete, locate, make_queue,
+    peek, put, take, update,
+};
 use crate::text::Text;
 use fh_base::{Moment, NoMemory};
 

@@ -1,5 +1,5 @@
 -- The name stands at the front of the array, and zeros behind it.
-use Rattle.std.proofs.Common.{◌≡◌, ℕ, ◌-◌, ◌≤◌, true, List, ◌++◌, length, take, drop, replicate, ap, arith, length-append, length-drop, refl, sym, ◌∙◌}
+use Rattle.std.proofs.Common.{◌≡◌, ℕ, ◌-◌, ◌≤◌, true, List, ◌++◌, length, drop, replicate, ap, arith, length-append, refl, sym, ◌∙◌}
 use Rattle.std.proofs.lemmas.List.{drop-replicate, length-replicate, take_at, drop_at}
 use Rattle.fh_base.specs.Names.{is_queue_name}
 use Rattle.fh_base.specs.QueueNames.{IsNamed, is_short}
