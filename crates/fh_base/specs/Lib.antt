@@ -4,3 +4,9 @@ pub mod Streams
 pub mod MemoryStreams
 pub mod Names
 pub mod QueueNames
+pub mod PlainNames
+pub mod PlainFields
+pub mod BlobNames
+pub mod Moments
+pub mod Rules
+pub mod Poison

@@ -2,7 +2,6 @@
 use Rattle.std.specs.Prelude.{ℕ, List, drop}
 use Rattle.fh_base.specs.declared.source.MemorySource.{MemorySource}
 use Rattle.fh_base.specs.declared.sink.MemorySink.{MemorySink}
-use Rattle.fh_base.specs.declared.fault_plan.FaultPlan.{FaultPlan}
 
 -- the bytes that reads will still give
 abbrev pub bytes_left : MemorySource → List ℕ

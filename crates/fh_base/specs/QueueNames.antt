@@ -1,7 +1,7 @@
 -- A queue name as a padded array and a length.
-use Rattle.std.specs.Prelude.{◌≡◌, ℕ, ◌+◌, ◌-◌, ◌≤◌, List, length, take, drop, ◌++◌, replicate, Bool, true, false, ◌&&◌, refl}
-use Rattle.std.proofs.Common.{ap, arith, length-take}
-use Rattle.std.proofs.lemmas.List.{take-append-drop, length-take-le}
+use Rattle.std.specs.Prelude.{◌≡◌, ℕ, ◌-◌, ◌≤◌, List, length, take, drop, ◌++◌, replicate, Bool, true, false, ◌&&◌, refl}
+use Rattle.std.proofs.Common.{arith, length-take}
+use Rattle.std.proofs.lemmas.List.{take-append-drop}
 use Rattle.std.proofs.lemmas.Bool.{leb-true}
 use Rattle.fh_base.specs.Names.{has_queue_length, is_queue_name}
 use Rattle.fh_base.specs.declared.queue_name.QueueName.TheInside.{Inside}

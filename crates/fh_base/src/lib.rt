@@ -7,18 +7,31 @@
 //! tell all, and fail exactly at the calls of their plan; the adapters over real streams tell nothing.
 #![tactic(auto)]
 
+mod blob_name;
 mod both;
 mod fault_plan;
 mod faults;
+mod moment;
+mod plain_name;
+mod poison;
 mod queue_name;
+mod rule;
 mod sink;
 mod source;
 mod status;
 
+pub use blob_name::is_blob_name;
 pub use both::Both;
 pub use fault_plan::{Failing, FaultPlan};
 pub use faults::{Failed, NoMemory};
+pub use moment::Moment;
+pub use plain_name::PlainName;
+pub use poison::poison_of;
 pub use queue_name::QueueName;
+pub use rule::Rule;
 pub use sink::{MemorySink, Sink, StreamSink, write_all};
 pub use source::{MemorySource, Source, StreamSource, read_byte};
 pub use status::Status;
+
+#[cfg(test)]
+mod tests;

@@ -39,7 +39,12 @@ impl QueueName {
     pub fn read(text: &str) -> Option<QueueName>
         ensures { MatchOption result (is_queue_name text.now ≡ false) (λ name. (is_queue_name text.now ≡ true) × (name ≡ text.now)) }
     {
-        let text = text.as_bytes();
+        QueueName::of_bytes(text.as_bytes())
+    }
+
+    pub(crate) fn of_bytes(text: &[u8]) -> Option<QueueName>
+        ensures { MatchOption result (is_queue_name text.now ≡ false) (λ name. (is_queue_name text.now ≡ true) × (name ≡ text.now)) }
+    {
         if !is_queue_name(text) {
             return None;
         }

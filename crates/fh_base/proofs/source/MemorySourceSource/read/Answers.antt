@@ -1,5 +1,5 @@
 -- What a read gives is the front of what was left, and the rest of it is left.
-use Rattle.std.proofs.Common.{◌≡◌, ℕ, ◌+◌, ◌-◌, ◌<◌, ◌≤◌, List, [], ◌++◌, length, take, drop, min, sym, ◌∙◌, ap, arith, length-append, length-drop, length-take}
+use Rattle.std.proofs.Common.{◌≡◌, ℕ, ◌+◌, ◌<◌, ◌≤◌, List, [], ◌++◌, length, take, drop, min, sym, ◌∙◌, ap, arith, length-append, length-drop, length-take}
 use Rattle.std.proofs.lemmas.List.{drop-drop, take-append-drop, take_at, drop_all}
 use Rattle.fh_base.proofs.source.MemorySourceSource.read.Goals as goal
 

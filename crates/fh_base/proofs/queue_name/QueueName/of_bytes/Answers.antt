@@ -1,9 +1,9 @@
 -- The name stands at the front of the array, and zeros behind it.
-use Rattle.std.proofs.Common.{◌≡◌, ℕ, ◌-◌, ◌≤◌, true, List, ◌++◌, length, take, drop, replicate, ap, arith, length-append, length-drop, refl, sym, ◌∙◌}
+use Rattle.std.proofs.Common.{◌≡◌, ℕ, ◌-◌, ◌≤◌, true, List, ◌++◌, length, drop, replicate, ap, arith, length-append, refl, sym, ◌∙◌}
 use Rattle.std.proofs.lemmas.List.{drop-replicate, length-replicate, take_at, drop_at}
 use Rattle.fh_base.specs.Names.{is_queue_name}
 use Rattle.fh_base.specs.QueueNames.{IsNamed, is_short}
-use Rattle.fh_base.proofs.queue_name.QueueName.read.Goals as goal
+use Rattle.fh_base.proofs.queue_name.QueueName.of_bytes.Goals as goal
 
 named : (text front zeros : List ℕ) (n : ℕ) → n ≡ length text → front ≡ text → zeros ≡ replicate 63 0 → is_queue_name text ≡ true
     → IsNamed (record { bytes = front ++ drop n zeros; length = n })
@@ -20,4 +20,4 @@ named text front zeros n size is padding name =
 
 pub invariant_of-result : goal.invariant_of-result
 invariant_of-result c =
-    named c.as_bytes-text.result.now _ _ _ refl c.copy_from_slice.ensures.after refl (sym c.is_queue_name.ensures ∙ c.if-not-is_queue_name.false)
+    named c.args.text.now _ _ _ refl c.copy_from_slice.ensures.after refl (sym c.is_queue_name.ensures ∙ c.if-not-is_queue_name.false)

@@ -1,0 +1,52 @@
+-- The fields of an entry, and the one spelling of each.
+use Rattle.std.specs.Prelude.{ℕ, ◌<◌, ◌≤◌, ◌^◌, List, [], ◌∷◌, ◌++◌, length, Option, Some, None, IfSome, ⊤, IsUtf8}
+use Rattle.std.specs.Int.{w32, w64, to_be_bytes}
+
+-- what stands in a field
+pub data Field : Type 0 where
+  number : ℕ → Field
+  words : List ℕ → Field
+  maybe_number : Option ℕ → Field
+  maybe_words : Option (List ℕ) → Field
+
+-- the most bytes of a text
+abbrev pub text_limit : ℕ
+text_limit = 16777216
+
+-- eight bytes, the greatest place first
+unfoldable pub number_bytes : ℕ → List ℕ
+number_bytes n = to_be_bytes w64 n
+
+-- the length in four bytes, and then the text
+unfoldable pub text_bytes : List ℕ → List ℕ
+text_bytes text = to_be_bytes w32 (length text) ++ text
+
+-- a byte 0, or a byte 1 and the value
+unfoldable pub maybe_bytes : {X : Type 0} → (X → List ℕ) → Option X → List ℕ
+maybe_bytes bytes None = 0 ∷ []
+maybe_bytes bytes (Some x) = 1 ∷ bytes x
+
+abbrev pub spelled : Field → List ℕ
+spelled (number n) = number_bytes n
+spelled (words text) = text_bytes text
+spelled (maybe_number n) = maybe_bytes number_bytes n
+spelled (maybe_words text) = maybe_bytes text_bytes text
+
+-- the text is UTF-8 and not too long
+pub record IsText (text : List ℕ) : Type 0 where
+  pub utf8 : IsUtf8 text
+  pub short : length text ≤ text_limit
+
+-- what may stand in a field
+abbrev pub IsField : Field → Type 0
+IsField (number n) = n < 2 ^ 64
+IsField (words text) = IsText text
+IsField (maybe_number n) = IfSome n (λ m. m < 2 ^ 64)
+IsField (maybe_words text) = IfSome text IsText
+
+-- no text is too long for a field
+abbrev pub IsShort : Field → Type 0
+IsShort (number n) = ⊤
+IsShort (words text) = length text ≤ text_limit
+IsShort (maybe_number n) = ⊤
+IsShort (maybe_words text) = IfSome text (λ t. length t ≤ text_limit)

@@ -1,0 +1,6 @@
+pub mod Fields
+pub mod Kinds
+pub mod Entries
+pub mod Answers
+pub mod Reading
+pub mod Lines

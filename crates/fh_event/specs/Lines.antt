@@ -1,0 +1,87 @@
+-- The lines that a script prints for replies and rules.
+use Rattle.std.specs.Prelude.{ℕ, ◌==◌, nat_le, Bool, ◌||◌, if◌then◌else◌, List, [], ◌∷◌, ◌++◌, length, codes, Result, Ok, Err}
+use Rattle.std.specs.List.{flat_map}
+use Rattle.std.specs.Borrow.{Bor}
+use Rattle.std.specs.Fmt.{decimal}
+use Rattle.percent_encoding.specs.Percent.{percent_encode_byte}
+use Rattle.fh_base.specs.declared.rule.Rule.{Rule}
+use Rattle.fh_base.specs.declared.rule.Rule.TheVariants.{MomentTooLate, BadName, TooLarge, OutOfRange, NoSuchFunction, QueueNotFound, BlobNotFound, MessageNotFound, NoSuchInvocation, PopReceiptMismatch, LeaseHeld, LeaseMismatch, StoreFull, JournalFull, OldJournal, TokensFull, BadZone}
+use Rattle.fh_base.specs.Rules.{rule_number, rule_name}
+use Rattle.fh_event.specs.declared.reply.Item.{Item}
+use Rattle.fh_event.specs.declared.reply.Place.{Place}
+use Rattle.fh_event.specs.declared.reply.Place.TheVariants.{Waiting, Held, Deleted as PlaceDeleted, Completed, Moved, Expired, Unknown}
+use Rattle.fh_event.specs.declared.reply.Reply.{Reply}
+use Rattle.fh_event.specs.declared.reply.Reply.TheVariants.{Made, There, Stored, Taken, Empty, Updated, Deleted, Cleared, Peeked, Located}
+
+-- a control character, a space, a percent sign, or a byte outside ASCII
+abbrev pub is_escaped : ℕ → Bool
+is_escaped b = nat_le b 32 || nat_le 127 b || (b == 37)
+
+-- a percent sign with two upper-case hexadecimal digits, or the byte
+abbrev pub escaped_byte : ℕ → List ℕ
+escaped_byte b = if is_escaped b then percent_encode_byte b else b ∷ []
+
+-- a text as one word: a percent sign alone stands for the empty text
+unfoldable pub escaped : List ℕ → List ℕ
+escaped [] = codes "%"
+escaped (b ∷ bytes) = flat_map escaped_byte (b ∷ bytes)
+
+-- a number behind a space
+abbrev pub spaced : ℕ → List ℕ
+spaced n = codes " " ++ decimal n
+
+abbrev pub rule_values : Rule → List ℕ
+rule_values MomentTooLate = []
+rule_values BadName = []
+rule_values (TooLarge size limit) = spaced size ++ spaced limit
+rule_values (OutOfRange given low high) = spaced given ++ spaced low ++ spaced high
+rule_values NoSuchFunction = []
+rule_values QueueNotFound = []
+rule_values BlobNotFound = []
+rule_values MessageNotFound = []
+rule_values NoSuchInvocation = []
+rule_values (PopReceiptMismatch current) = spaced current
+rule_values (LeaseHeld holder until) = spaced holder ++ spaced until
+rule_values (LeaseMismatch holder) = spaced holder
+rule_values (StoreFull live) = spaced live
+rule_values (JournalFull bytes) = spaced bytes
+rule_values (OldJournal version) = spaced version
+rule_values (TokensFull kept) = spaced kept
+rule_values BadZone = []
+
+abbrev pub rule_line : Rule → List ℕ
+rule_line rule = codes "no" ++ spaced (rule_number rule) ++ codes " " ++ rule_name rule ++ rule_values rule
+
+-- number, receipt, count and text of a message that is held now
+abbrev pub taken_item : Item → List ℕ
+taken_item item =
+    spaced item.number ++ codes ":" ++ decimal item.receipt ++ codes ":" ++ decimal item.count ++ codes ":" ++ escaped item.text
+
+-- number, count and text of a message that is read
+abbrev pub peeked_item : Item → List ℕ
+peeked_item item = spaced item.number ++ codes ":" ++ decimal item.count ++ codes ":" ++ escaped item.text
+
+abbrev pub place_line : Place → List ℕ
+place_line (Waiting queue) = codes "is waiting " ++ escaped queue
+place_line (Held queue until) = codes "is held " ++ escaped queue ++ spaced until
+place_line PlaceDeleted = codes "is deleted"
+place_line (Completed invocation) = codes "is completed" ++ spaced invocation
+place_line (Moved copy) = codes "is moved" ++ spaced copy
+place_line Expired = codes "is expired"
+place_line Unknown = codes "is unknown"
+
+abbrev pub reply_line : Reply → List ℕ
+reply_line Made = codes "ok"
+reply_line There = codes "quiet there"
+reply_line (Stored n receipt) = codes "ok" ++ spaced n ++ spaced receipt
+reply_line (Taken items) = codes "ok" ++ spaced (length items) ++ flat_map taken_item items
+reply_line Empty = codes "quiet empty"
+reply_line (Updated receipt) = codes "ok" ++ spaced receipt
+reply_line Deleted = codes "ok"
+reply_line (Cleared count) = codes "ok" ++ spaced count
+reply_line (Peeked items) = codes "is" ++ spaced (length items) ++ flat_map peeked_item items
+reply_line (Located place) = place_line place
+
+abbrev pub answer_line : Result (Bor Reply) (Bor Rule) → List ℕ
+answer_line (Ok reply) = reply_line reply.now
+answer_line (Err rule) = rule_line rule.now

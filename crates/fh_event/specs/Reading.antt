@@ -1,0 +1,82 @@
+-- Reading an entry from left to right, with the first fault that is met. A field is answered with the
+-- bytes behind it.
+use Rattle.std.specs.Prelude.{ℕ, zero, suc, ◌+◌, ◌==◌, nat_lt, Bool, true, false, if◌then◌else◌, List, [], ◌∷◌, length, take, drop, Option, Some, None, Result, Ok, Err}
+use Rattle.std.specs.Int.{Width, w32, w64, byte_len, from_be_bytes}
+use Rattle.std.specs.Str.{is_utf8}
+use Rattle.fh_base.specs.Moments.{greatest_moment}
+use Rattle.fh_event.specs.declared.command.Command.{Command}
+use Rattle.fh_event.specs.declared.faults.EventFault.{EventFault}
+use Rattle.fh_event.specs.declared.faults.EventFault.TheVariants.{BadKind, ShortField, LongField, BadField, Trailing}
+use Rattle.fh_event.specs.declared.tables.FieldType.{FieldType}
+use Rattle.fh_event.specs.declared.tables.FieldType.TheVariants.{Number, Words, MaybeNumber, MaybeWords}
+use Rattle.fh_event.specs.Answers.{◌>>=◌}
+use Rattle.fh_event.specs.Fields.{text_limit}
+use Rattle.fh_event.specs.Kinds.{Kind, kind_at, types_of, Held, Taking, made}
+
+abbrev pub number_at : Width → ℕ → List ℕ → Result (ℕ × List ℕ) EventFault
+number_at w field bytes =
+    if nat_lt (length bytes) (byte_len w) then Err (ShortField field)
+    else Ok (from_be_bytes w (take (byte_len w) bytes), drop (byte_len w) bytes)
+
+-- the text of so many bytes
+abbrev pub text_of_length : ℕ → ℕ → List ℕ → Result (List ℕ × List ℕ) EventFault
+text_of_length field n bytes =
+    if nat_lt text_limit n then Err (LongField field)
+    else (if nat_lt (length bytes) n then Err (ShortField field)
+    else (if is_utf8 (take n bytes) then Ok (take n bytes, drop n bytes) else Err (BadField field)))
+
+unfoldable pub text_at : ℕ → List ℕ → Result (List ℕ × List ℕ) EventFault
+text_at field bytes = do
+  n ← number_at w32 field bytes
+  text_of_length field n.0 n.1
+
+-- a byte 0 or 1
+unfoldable pub flag_at : ℕ → List ℕ → Result (Bool × List ℕ) EventFault
+flag_at field [] = Err (ShortField field)
+flag_at field (zero ∷ rest) = Ok (false, rest)
+flag_at field (suc zero ∷ rest) = Ok (true, rest)
+flag_at field (suc (suc b) ∷ rest) = Err (BadField field)
+
+abbrev pub behind_flag : {X : Type 0} → (List ℕ → Result (X × List ℕ) EventFault) → Bool → List ℕ → Result (Option X × List ℕ) EventFault
+behind_flag reader false rest = Ok (None, rest)
+behind_flag reader true rest = reader rest >>= λ x. Ok (Some x.0, x.1)
+
+-- a byte 0, or a byte 1 and what the reader reads
+unfoldable pub maybe_at : {X : Type 0} → (List ℕ → Result (X × List ℕ) EventFault) → ℕ → List ℕ → Result (Option X × List ℕ) EventFault
+maybe_at reader field bytes = flag_at field bytes >>= λ flag. behind_flag reader flag.0 flag.1
+
+abbrev pub held_at : (type : FieldType) → ℕ → List ℕ → Result (Held type × List ℕ) EventFault
+held_at Number field bytes = number_at w64 field bytes
+held_at Words field bytes = text_at field bytes
+held_at MaybeNumber field bytes = maybe_at (number_at w64 field) field bytes
+held_at MaybeWords field bytes = maybe_at (text_at field) field bytes
+
+-- the fields of these types in order, counted on from a first
+abbrev pub taken_at : (types : List FieldType) → Taking types → ℕ → List ℕ → Result (Command × List ℕ) EventFault
+taken_at [] command field bytes = Ok (command, bytes)
+taken_at (type ∷ types) taking field bytes = held_at type field bytes >>= λ x. taken_at types (taking x.0) (field + 1) x.1
+
+abbrev pub command_of_kind : ℕ → Option Kind → List ℕ → Result (Command × List ℕ) EventFault
+command_of_kind n None bytes = Err (BadKind n)
+command_of_kind n (Some kind) bytes = taken_at (types_of kind) (made kind) 1 bytes
+
+-- the command of the kind of this number
+unfoldable pub command_at : ℕ → List ℕ → Result (Command × List ℕ) EventFault
+command_at n bytes = command_of_kind n (kind_at n) bytes
+
+unfoldable pub moment_at : List ℕ → Result (ℕ × List ℕ) EventFault
+moment_at bytes = do
+  n ← number_at w64 0 bytes
+  if nat_lt greatest_moment n.0 then Err (BadField 0) else Ok n
+
+unfoldable pub kind_byte_at : List ℕ → Result (ℕ × List ℕ) EventFault
+kind_byte_at [] = Err (ShortField 0)
+kind_byte_at (kind ∷ rest) = Ok (kind, rest)
+
+-- all of the bytes
+unfoldable pub entry_read : List ℕ → Result (ℕ × Command) EventFault
+entry_read bytes = do
+  moment ← moment_at bytes
+  kind ← kind_byte_at moment.1
+  command ← command_at kind.0 kind.1
+  if length command.1 == 0 then Ok (moment.0, command.0) else Err (Trailing (length command.1))

@@ -1,0 +1,91 @@
+// Why a command, or a reading of bytes, has no answer.
+use fh_base::{NoMemory, Rule};
+use std::alloc::{AllocError, AllocFailed};
+
+/// Why a store has no change to make.
+#[derive(Clone, Copy, Debug, PartialEq, Eq)]
+pub enum PlanFault {
+    Rule(Rule),
+    NoMemory,
+}
+
+impl From<NoMemory> for PlanFault {
+    ghost use Rattle.std.specs.Prelude.{◌≡◌};
+    ghost use Rattle.fh_event.specs.declared.faults.PlanFault.TheVariants.{NoMemory as WithoutMemory};
+
+    ghost from_gives = { λ _ fault. fault ≡ WithoutMemory };
+
+    fn from(_refused: NoMemory) -> PlanFault {
+        PlanFault::NoMemory
+    }
+}
+
+/// Why a step was not made. The world and the history are as before it.
+#[derive(Clone, Copy, Debug, PartialEq, Eq)]
+pub enum StepFault {
+    Rule(Rule),
+    NoMemory,
+    /// A call on the disk failed.
+    DiskFault,
+}
+
+impl From<NoMemory> for StepFault {
+    ghost use Rattle.std.specs.Prelude.{◌≡◌};
+    ghost use Rattle.fh_event.specs.declared.faults.StepFault.TheVariants.{NoMemory as WithoutMemory};
+
+    ghost from_gives = { λ _ fault. fault ≡ WithoutMemory };
+
+    fn from(_refused: NoMemory) -> StepFault {
+        StepFault::NoMemory
+    }
+}
+
+/// Why bytes are no entry: the first fault from the left. Field 0 is the moment with the kind, and field 1
+/// the first field of the command.
+#[derive(Clone, Copy, Debug, PartialEq, Eq)]
+pub enum EventFault {
+    /// No command has this kind.
+    BadKind { kind: u8 },
+    /// The bytes end inside this field.
+    ShortField { field: u8 },
+    /// The text of this field has more than 16,777,216 bytes.
+    LongField { field: u8 },
+    /// A moment is too late, a text is no UTF-8, or a first byte is none of those that the field may have.
+    BadField { field: u8 },
+    /// So many bytes are left behind the last field.
+    Trailing { left: u64 },
+    NoMemory,
+}
+
+impl From<AllocError> for EventFault {
+    ghost use Rattle.std.specs.Prelude.{◌≡◌};
+    ghost use Rattle.fh_event.specs.declared.faults.EventFault.TheVariants.{NoMemory as WithoutMemory};
+
+    ghost from_gives = { λ _ fault. fault ≡ WithoutMemory };
+
+    fn from(_refused: AllocError) -> EventFault {
+        EventFault::NoMemory
+    }
+}
+
+impl<T: Drop> From<AllocFailed<T>> for EventFault {
+    ghost use Rattle.std.specs.Prelude.{◌≡◌};
+    ghost use Rattle.fh_event.specs.declared.faults.EventFault.TheVariants.{NoMemory as WithoutMemory};
+
+    ghost from_gives = { λ _ fault. fault ≡ WithoutMemory };
+
+    fn from(_refused: AllocFailed<T>) -> EventFault {
+        EventFault::NoMemory
+    }
+}
+
+impl From<NoMemory> for EventFault {
+    ghost use Rattle.std.specs.Prelude.{◌≡◌};
+    ghost use Rattle.fh_event.specs.declared.faults.EventFault.TheVariants.{NoMemory as WithoutMemory};
+
+    ghost from_gives = { λ _ fault. fault ≡ WithoutMemory };
+
+    fn from(_refused: NoMemory) -> EventFault {
+        EventFault::NoMemory
+    }
+}

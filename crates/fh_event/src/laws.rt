@@ -1,0 +1,28 @@
+// What holds of entries whoever writes or reads them.
+ghost use Rattle.std.specs.Prelude.{◌≡◌, ℕ, List, Ok};
+ghost use Rattle.fh_event.specs.declared.command.Command.{Command};
+ghost use Rattle.fh_event.specs.Kinds.{make_queue, put, take, update, delete, clear, peek, locate, kind_number, types_of};
+ghost use Rattle.fh_event.specs.Entries.{entry, IsEntry};
+ghost use Rattle.fh_event.specs.Reading.{entry_read};
+
+use crate::tables::{CLEAR, DELETE, LOCATE, MAKE_QUEUE, PEEK, PUT, TAKE, UPDATE};
+
+/// Bytes are the entry of one moment and one command at most, and reading them gives these two. So what
+/// `encode` wrote is what `decode` reads, and no second spelling is read.
+#[tactic(auto, using(crate::proofs::EntryLaws::is_one_entry, crate::proofs::EntryLaws::read_again))]
+pub fn entries_have_one_reading()
+    ensures one { (bytes : List ℕ) (m n : ℕ) (c d : Command) → IsEntry bytes m c → IsEntry bytes n d → (m ≡ n) × (c ≡ d) }
+    ensures read { (m : ℕ) (c : Command) → IsEntry (entry m c) m c → entry_read (entry m c) ≡ Ok (m, c) }
+{}
+
+/// The tables are those of the grammar.
+pub fn tables_are_those_of_the_grammar()
+    ensures make_queue { (MAKE_QUEUE.kind ≡ kind_number make_queue) × (MAKE_QUEUE.fields ≡ types_of make_queue) }
+    ensures put { (PUT.kind ≡ kind_number put) × (PUT.fields ≡ types_of put) }
+    ensures take { (TAKE.kind ≡ kind_number take) × (TAKE.fields ≡ types_of take) }
+    ensures update { (UPDATE.kind ≡ kind_number update) × (UPDATE.fields ≡ types_of update) }
+    ensures delete { (DELETE.kind ≡ kind_number delete) × (DELETE.fields ≡ types_of delete) }
+    ensures clear { (CLEAR.kind ≡ kind_number clear) × (CLEAR.fields ≡ types_of clear) }
+    ensures peek { (PEEK.kind ≡ kind_number peek) × (PEEK.fields ≡ types_of peek) }
+    ensures locate { (LOCATE.kind ≡ kind_number locate) × (LOCATE.fields ≡ types_of locate) }
+{}

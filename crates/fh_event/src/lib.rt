@@ -1,0 +1,31 @@
+//! Commands, replies, rules' texts, and the bytes of journal entries.
+//!
+//! Promised to the layers above: contracts see a command, a reply and a text as plain values. What
+//! `encode` appends is the one spelling of a moment and a command, and after want of memory nothing is
+//! appended. `decode` reads exactly these spellings and answers every other list of bytes with its first
+//! fault from the left; so reading what was written gives the same value, and no second spelling is read.
+//! `answer_text` writes the line that a script prints for a reply or a rule.
+#![tactic(auto)]
+
+mod command;
+mod faults;
+mod laws;
+mod lines;
+mod reading;
+mod reply;
+mod tables;
+mod text;
+mod writing;
+
+pub use command::Command;
+pub use faults::{EventFault, PlanFault, StepFault};
+pub use laws::{entries_have_one_reading, tables_are_those_of_the_grammar};
+pub use lines::answer_text;
+pub use reading::decode;
+pub use reply::{Item, Items, Place, Reply};
+pub use tables::{CLEAR, DELETE, FieldType, LOCATE, MAKE_QUEUE, PEEK, PUT, TAKE, Table, UPDATE};
+pub use text::Text;
+pub use writing::encode;
+
+#[cfg(test)]
+mod tests;

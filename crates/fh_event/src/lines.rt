@@ -1,0 +1,163 @@
+// The lines that a script prints for replies and rules.
+ghost use Rattle.std.specs.Prelude.{◌≡◌, ◌++◌, length, IfOk, OnOk};
+ghost use Rattle.std.specs.List.{flat_map};
+ghost use Rattle.std.specs.String.{string_bytes};
+ghost use Rattle.fh_event.specs.Lines.{escaped, rule_values, rule_line, taken_item, peeked_item, place_line, reply_line, answer_line};
+
+use crate::reply::{Item, Place, Reply};
+use fh_base::{NoMemory, Rule};
+use percent_encoding::{AsciiSet, CONTROLS, ascii_set, percent_encode};
+use std::alloc::Global;
+
+const ESCAPED: AsciiSet = ascii_set!(CONTROLS.add(b' ').add(b'%'));
+
+/// The line for an answer, without a line feed. Texts are escaped by percent signs where they have a
+/// control character, a space, a percent sign or a byte outside ASCII; the empty text is printed `%`.
+pub fn answer_text(alloc: Global, answer: Result<&Reply, &Rule>) -> Result<String, NoMemory>
+    ensures { IfOk result (λ line. string_bytes line ≡ answer_line answer.entry) }
+{
+    let mut line = String::new(alloc);
+    match answer {
+        Ok(reply) => push_reply(&mut line, reply)?,
+        Err(rule) => push_rule(&mut line, rule)?,
+    }
+    Ok(line)
+}
+
+#[tactic(auto, using(crate::proofs::Joining::joining))]
+fn push_rule(line: &mut String, rule: &Rule) -> Result<(), NoMemory>
+    ensures { OnOk result (string_bytes line.new ≡ string_bytes line.old ++ rule_line rule.now) }
+{
+    let number = rule.number();
+    let name = rule.name();
+    write!(line, "no {number} {name}")?;
+    push_rule_values(line, rule)
+}
+
+#[tactic(auto, using(crate::proofs::Joining::joining))]
+fn push_rule_values(line: &mut String, rule: &Rule) -> Result<(), NoMemory>
+    ensures { OnOk result (string_bytes line.new ≡ string_bytes line.old ++ rule_values rule.now) }
+{
+    match rule {
+        Rule::TooLarge { size, limit } => write!(line, " {size} {limit}")?,
+        Rule::OutOfRange { given, low, high } => write!(line, " {given} {low} {high}")?,
+        Rule::PopReceiptMismatch { current } => write!(line, " {current}")?,
+        Rule::LeaseHeld { holder, until } => write!(line, " {holder} {until}")?,
+        Rule::LeaseMismatch { holder } => write!(line, " {holder}")?,
+        Rule::StoreFull { live } => write!(line, " {live}")?,
+        Rule::JournalFull { length } => write!(line, " {length}")?,
+        Rule::OldJournal { version } => write!(line, " {version}")?,
+        Rule::TokensFull { kept } => write!(line, " {kept}")?,
+        Rule::MomentTooLate
+        | Rule::BadName
+        | Rule::NoSuchFunction
+        | Rule::QueueNotFound
+        | Rule::BlobNotFound
+        | Rule::MessageNotFound
+        | Rule::NoSuchInvocation
+        | Rule::BadZone => {}
+    }
+    Ok(())
+}
+
+#[tactic(auto, using(crate::proofs::Joining::joining))]
+fn push_reply(line: &mut String, reply: &Reply) -> Result<(), NoMemory>
+    ensures { OnOk result (string_bytes line.new ≡ string_bytes line.old ++ reply_line reply.now) }
+{
+    match reply {
+        Reply::Made | Reply::Deleted => line.push_str("ok")?,
+        Reply::There => line.push_str("quiet there")?,
+        Reply::Stored { number, receipt } => write!(line, "ok {number} {receipt}")?,
+        Reply::Taken { items } => {
+            let items = items.as_slice();
+            let count = items.len();
+            write!(line, "ok {count}")?;
+            push_taken(line, items)?;
+        }
+        Reply::Empty => line.push_str("quiet empty")?,
+        Reply::Updated { receipt } => write!(line, "ok {receipt}")?,
+        Reply::Cleared { count } => write!(line, "ok {count}")?,
+        Reply::Peeked { items } => {
+            let items = items.as_slice();
+            let count = items.len();
+            write!(line, "is {count}")?;
+            push_peeked(line, items)?;
+        }
+        Reply::Located { place } => push_place(line, place)?,
+    }
+    Ok(())
+}
+
+#[tactic(auto, using(crate::proofs::Joining::joining))]
+fn push_place(line: &mut String, place: &Place) -> Result<(), NoMemory>
+    ensures { OnOk result (string_bytes line.new ≡ string_bytes line.old ++ place_line place.now) }
+{
+    match place {
+        Place::Waiting { queue } => {
+            line.push_str("is waiting ")?;
+            push_escaped(line, queue.as_bytes())?;
+        }
+        Place::Held { queue, until } => {
+            line.push_str("is held ")?;
+            push_escaped(line, queue.as_bytes())?;
+            write!(line, " {until}")?;
+        }
+        Place::Deleted => line.push_str("is deleted")?,
+        Place::Completed { invocation } => write!(line, "is completed {invocation}")?,
+        Place::Moved { copy } => write!(line, "is moved {copy}")?,
+        Place::Expired => line.push_str("is expired")?,
+        Place::Unknown => line.push_str("is unknown")?,
+    }
+    Ok(())
+}
+
+fn push_taken(line: &mut String, items: &[Item]) -> Result<(), NoMemory>
+    ensures { OnOk result (string_bytes line.new ≡ string_bytes line.old ++ flat_map taken_item items.now) }
+{
+    for item in items {
+        push_taken_item(line, item)?;
+    }
+    Ok(())
+}
+
+#[tactic(auto, using(crate::proofs::Joining::joining))]
+fn push_taken_item(line: &mut String, item: &Item) -> Result<(), NoMemory>
+    ensures { OnOk result (string_bytes line.new ≡ string_bytes line.old ++ taken_item item.now) }
+{
+    let number = item.number;
+    let receipt = item.receipt;
+    let count = item.count;
+    write!(line, " {number}:{receipt}:{count}:")?;
+    push_escaped(line, item.text.as_str().as_bytes())
+}
+
+fn push_peeked(line: &mut String, items: &[Item]) -> Result<(), NoMemory>
+    ensures { OnOk result (string_bytes line.new ≡ string_bytes line.old ++ flat_map peeked_item items.now) }
+{
+    for item in items {
+        push_peeked_item(line, item)?;
+    }
+    Ok(())
+}
+
+#[tactic(auto, using(crate::proofs::Joining::joining))]
+fn push_peeked_item(line: &mut String, item: &Item) -> Result<(), NoMemory>
+    ensures { OnOk result (string_bytes line.new ≡ string_bytes line.old ++ peeked_item item.now) }
+{
+    let number = item.number;
+    let count = item.count;
+    write!(line, " {number}:{count}:")?;
+    push_escaped(line, item.text.as_str().as_bytes())
+}
+
+#[tactic(auto, using(crate::proofs::Escaping::escapes), unfolding(crate::specs::Lines::escaped))]
+fn push_escaped(line: &mut String, text: &[u8]) -> Result<(), NoMemory>
+    ensures { OnOk result (string_bytes line.new ≡ string_bytes line.old ++ escaped text.now) }
+{
+    if text.is_empty() {
+        line.push_str("%")?;
+        return Ok(());
+    }
+    percent_encode(text, ESCAPED).append_to(line)?;
+    Ok(())
+}

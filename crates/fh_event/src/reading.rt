@@ -1,0 +1,183 @@
+// Reading entries from left to right.
+ghost use Rattle.std.specs.Prelude.{◌≡◌, ℕ, true, false, Ok, IfOk, MatchOption};
+ghost use Rattle.std.specs.Str.{is_utf8};
+ghost use Rattle.std.specs.Int.{w32, w64};
+ghost use Rattle.fh_event.specs.Answers.{Gives};
+ghost use Rattle.fh_event.specs.Reading.{number_at, text_at, flag_at, maybe_at, command_at, kind_byte_at, entry_read};
+ghost use Rattle.fh_event.specs.Entries.{IsEntry};
+
+use crate::command::Command;
+use crate::faults::EventFault;
+use crate::tables::{clear, delete, locate, make_queue, peek, put, take, update};
+use crate::text::Text;
+use fh_base::Moment;
+use std::alloc::Global;
+
+const LIMIT: usize = 16777216;
+
+/// The moment and the command of an entry, which the bytes are from end to end.
+#[tactic(auto, using(crate::proofs::EntryLaws::is_read, crate::proofs::EntryLaws::read_again))]
+pub fn decode(alloc: Global, bytes: &[u8]) -> Result<(Moment, Command), EventFault>
+    // What is read is an entry.
+    ensures read { IfOk result (λ x. IsEntry bytes.now x.0 x.1) }
+    // An entry is read, unless memory runs out.
+    ensures only { (moment : ℕ) (command : Command) → IsEntry bytes.now moment command
+        → Gives (λ x. x) result (Ok (moment, command)) }
+    // Which fault it is.
+    ensures fault { Gives (λ x. x) result (entry_read bytes.now) }
+{
+    entry_of(alloc, bytes)
+}
+
+fn length_of(field: u8, bytes: &[u8]) -> Result<(u32, &[u8]), EventFault>
+    ensures { Gives (λ x. (x.0, x.1.now)) result (number_at w32 field bytes.now) }
+{
+    if bytes.len() < 4 {
+        return Err(EventFault::ShortField { field });
+    }
+    let (front, rest) = bytes.split_at(4);
+    let number = u32::from_be_bytes([front[0], front[1], front[2], front[3]]);
+    Ok((number, rest))
+}
+
+fn number_of(field: u8, bytes: &[u8]) -> Result<(u64, &[u8]), EventFault>
+    ensures { Gives (λ x. (x.0, x.1.now)) result (number_at w64 field bytes.now) }
+{
+    if bytes.len() < 8 {
+        return Err(EventFault::ShortField { field });
+    }
+    let (front, rest) = bytes.split_at(8);
+    let number = u64::from_be_bytes([
+        front[0], front[1], front[2], front[3], front[4], front[5], front[6], front[7],
+    ]);
+    Ok((number, rest))
+}
+
+#[tactic(auto, unfolding(crate::specs::Reading::text_at))]
+fn text_of(alloc: Global, field: u8, bytes: &[u8]) -> Result<(Text, &[u8]), EventFault>
+    ensures { Gives (λ x. (x.0, x.1.now)) result (text_at field bytes.now) }
+{
+    let (length, rest) = length_of(field, bytes)?;
+    let length = length as usize;
+    if length > LIMIT {
+        return Err(EventFault::LongField { field });
+    }
+    if rest.len() < length {
+        return Err(EventFault::ShortField { field });
+    }
+    let (text, rest) = rest.split_at(length);
+    match utf8_of(text) {
+        None => Err(EventFault::BadField { field }),
+        Some(text) => Ok((Text::from_str(alloc, text)?, rest)),
+    }
+}
+
+#[tactic(auto, using(crate::proofs::Utf8::is_text, crate::proofs::Utf8::is_no_text))]
+fn utf8_of(bytes: &[u8]) -> Option<&str>
+    ensures { MatchOption result (is_utf8 bytes.now ≡ false) (λ s. (is_utf8 bytes.now ≡ true) × (s.now ≡ bytes.now)) }
+{
+    match str::from_utf8(bytes) {
+        Ok(text) => Some(text),
+        Err(_) => None,
+    }
+}
+
+#[tactic(auto, unfolding(crate::specs::Reading::flag_at))]
+fn flag_of(field: u8, bytes: &[u8]) -> Result<(bool, &[u8]), EventFault>
+    ensures { Gives (λ x. (x.0, x.1.now)) result (flag_at field bytes.now) }
+{
+    match bytes {
+        [] => Err(EventFault::ShortField { field }),
+        [0, rest @ ..] => Ok((false, rest)),
+        [1, rest @ ..] => Ok((true, rest)),
+        [_, ..] => Err(EventFault::BadField { field }),
+    }
+}
+
+#[tactic(auto, unfolding(crate::specs::Reading::maybe_at))]
+fn maybe_number_of(field: u8, bytes: &[u8]) -> Result<(Option<u64>, &[u8]), EventFault>
+    ensures { Gives (λ x. (x.0, x.1.now)) result (maybe_at (number_at w64 field) field bytes.now) }
+{
+    let (is_there, rest) = flag_of(field, bytes)?;
+    if !is_there {
+        return Ok((None, rest));
+    }
+    let (number, rest) = number_of(field, rest)?;
+    Ok((Some(number), rest))
+}
+
+#[tactic(auto, unfolding(crate::specs::Reading::maybe_at))]
+fn maybe_text_of(
+    alloc: Global,
+    field: u8,
+    bytes: &[u8],
+) -> Result<(Option<Text>, &[u8]), EventFault>
+    ensures { Gives (λ x. (x.0, x.1.now)) result (maybe_at (text_at field) field bytes.now) }
+{
+    let (is_there, rest) = flag_of(field, bytes)?;
+    if !is_there {
+        return Ok((None, rest));
+    }
+    let (text, rest) = text_of(alloc, field, rest)?;
+    Ok((Some(text), rest))
+}
+
+// Reads the fields of a table in order, and makes the command of them.
+macro_rules! reader {
+    ([$alloc:ident $rest:ident] $kind:literal $variant:ident { $($field:literal $name:ident: $type:ident),* }) => {{
+        $(let ($name, $rest) = held!($type $alloc $field $rest)?;)*
+        Ok((Command::$variant { $($name),* }, $rest))
+    }};
+}
+
+macro_rules! held {
+    (Number $alloc:ident $field:literal $rest:ident) => { number_of($field, $rest) };
+    (Words $alloc:ident $field:literal $rest:ident) => { text_of($alloc, $field, $rest) };
+    (MaybeNumber $alloc:ident $field:literal $rest:ident) => { maybe_number_of($field, $rest) };
+    (MaybeWords $alloc:ident $field:literal $rest:ident) => { maybe_text_of($alloc, $field, $rest) };
+}
+
+#[tactic(auto, unfolding(crate::specs::Reading::command_at, crate::specs::Kinds::kind_at))]
+fn command_of(alloc: Global, kind: u8, rest: &[u8]) -> Result<(Command, &[u8]), EventFault>
+    ensures { Gives (λ x. (x.0, x.1.now)) result (command_at kind rest.now) }
+{
+    match kind {
+        1 => make_queue!(reader alloc rest),
+        2 => put!(reader alloc rest),
+        3 => take!(reader alloc rest),
+        4 => update!(reader alloc rest),
+        5 => delete!(reader alloc rest),
+        6 => clear!(reader alloc rest),
+        21 => peek!(reader alloc rest),
+        23 => locate!(reader alloc rest),
+        _ => Err(EventFault::BadKind { kind }),
+    }
+}
+
+#[tactic(auto, unfolding(crate::specs::Reading::kind_byte_at))]
+fn kind_byte_of(bytes: &[u8]) -> Result<(u8, &[u8]), EventFault>
+    ensures { Gives (λ x. (x.0, x.1.now)) result (kind_byte_at bytes.now) }
+{
+    match bytes {
+        [] => Err(EventFault::ShortField { field: 0 }),
+        [kind, rest @ ..] => Ok((*kind, rest)),
+    }
+}
+
+#[tactic(auto, unfolding(crate::specs::Reading::entry_read, crate::specs::Reading::moment_at))]
+fn entry_of(alloc: Global, bytes: &[u8]) -> Result<(Moment, Command), EventFault>
+    ensures { Gives (λ x. x) result (entry_read bytes.now) }
+{
+    let (ms, rest) = number_of(0, bytes)?;
+    let Some(moment) = Moment::new(ms) else {
+        return Err(EventFault::BadField { field: 0 });
+    };
+    let (kind, rest) = kind_byte_of(rest)?;
+    let (command, rest) = command_of(alloc, kind, rest)?;
+    if !rest.is_empty() {
+        return Err(EventFault::Trailing {
+            left: rest.len() as u64,
+        });
+    }
+    Ok((moment, command))
+}

@@ -1,0 +1,95 @@
+// Replies.
+ghost use Rattle.std.specs.Prelude.{◌≡◌};
+
+use crate::text::Text;
+use fh_base::QueueName;
+use std::marker::Model;
+
+/// A message as `Taken` and `Peeked` list it. `receipt` is the newest one.
+#[derive(Debug, Drop)]
+pub struct Item {
+    pub number: u64,
+    pub receipt: u64,
+    pub count: u64,
+    pub text: Text,
+}
+
+/// A list of messages. Contracts see the list.
+#[derive(Debug, Drop)]
+pub struct Items {
+    items: Vec<Item>,
+}
+
+impl Model for Items {
+    ghost use Rattle.std.specs.Prelude.{List};
+    ghost use Rattle.fh_event.specs.declared.reply.Item.{Item};
+
+    ghost Value = { List Item };
+
+    ghost view = { λ a. a.items.items };
+}
+
+impl Items {
+    /// Takes no memory.
+    pub fn new(items: Vec<Item>) -> Items
+        ensures { result ≡ items.items }
+    {
+        Items { items }
+    }
+
+    pub fn as_slice(&self) -> &[Item]
+        ensures { result.now ≡ self.now }
+    {
+        &self.items
+    }
+
+    /// Takes no memory.
+    pub fn into_vec(self) -> Vec<Item>
+        ensures { result.items ≡ self }
+    {
+        let Items { items } = self;
+        items
+    }
+}
+
+/// Where a message is. `until` is a moment in milliseconds.
+#[derive(Clone, Copy)]
+pub enum Place {
+    /// Live and not held.
+    Waiting { queue: QueueName },
+    /// Live, and held until that moment.
+    Held { queue: QueueName, until: u64 },
+    Deleted,
+    /// Removed by the success of that invocation.
+    Completed { invocation: u64 },
+    /// Moved into a poison queue, as that message.
+    Moved { copy: u64 },
+    Expired,
+    /// No message ever had that number.
+    Unknown,
+}
+
+/// What an accepted command answers.
+#[derive(Drop)]
+pub enum Reply {
+    /// The queue was made.
+    Made,
+    /// Quiet: the queue is there.
+    There,
+    /// The message has that number and receipt.
+    Stored { number: u64, receipt: u64 },
+    /// The messages are held.
+    Taken { items: Items },
+    /// Quiet: no message is there.
+    Empty,
+    /// The message has that receipt now.
+    Updated { receipt: u64 },
+    /// The message was removed.
+    Deleted,
+    /// So many messages were removed.
+    Cleared { count: u64 },
+    /// A reading: the first visible messages.
+    Peeked { items: Items },
+    /// A reading: where the message is.
+    Located { place: Place },
+}

@@ -1,0 +1,260 @@
+use super::*;
+use fh_base::{Moment, QueueName, Rule};
+use std::test::Fail;
+
+const MADE: [u8; 19] = [
+    0, 0, 0, 0, 0, 0, 0, 0, 1, 0, 0, 0, 6, 0x6f, 0x72, 0x64, 0x65, 0x72, 0x73,
+];
+
+const PUT_HI: [u8; 34] = [
+    0, 0, 0, 0, 0, 0, 0, 0, 2, 0, 0, 0, 6, 0x6f, 0x72, 0x64, 0x65, 0x72, 0x73, 0, 0, 0, 0, 0, 0, 0,
+    0, 0, 0, 0, 0, 2, 0x68, 0x69,
+];
+
+#[test]
+fn two_entries_byte_for_byte(rt: HostRuntime) -> Result<(), Fail> {
+    let start = Moment::new(0).ok_or("0 is a moment")?;
+    let queue = Command::MakeQueue {
+        queue: Text::from_str(rt.alloc(), "orders")?,
+    };
+    let mut bytes = Vec::new(rt.alloc());
+    encode(&queue, start, &mut bytes)?;
+    assert_eq!(rt; bytes.as_slice(), MADE.as_slice());
+    let put = Command::Put {
+        queue: Text::from_str(rt.alloc(), "orders")?,
+        delay: 0,
+        ttl: None,
+        text: Text::from_str(rt.alloc(), "hi")?,
+    };
+    let mut bytes = Vec::new(rt.alloc());
+    encode(&put, start, &mut bytes)?;
+    assert_eq!(rt; bytes.as_slice(), PUT_HI.as_slice());
+    Ok(())
+}
+
+#[test]
+fn an_entry_is_read(rt: HostRuntime) -> Result<(), Fail> {
+    let (moment, command) = decode(rt.alloc(), &PUT_HI)?;
+    assert_eq!(rt; moment.ms(), 0);
+    let Command::Put {
+        queue,
+        delay,
+        ttl,
+        text,
+    } = command
+    else {
+        return Err("the bytes are a put".into());
+    };
+    assert_eq!(rt; queue.as_str(), "orders");
+    assert_eq!(rt; delay, 0);
+    assert_eq!(rt; ttl, None);
+    assert_eq!(rt; text.as_str(), "hi");
+    Ok(())
+}
+
+#[test]
+fn damaged_entries_have_their_first_fault(rt: HostRuntime) {
+    let long = EventFault::LongField { field: 1 };
+    let cases: [(&[u8], EventFault); 15] = [
+        (b"", EventFault::ShortField { field: 0 }),
+        (b"\0\0\0\0\0\0\0", EventFault::ShortField { field: 0 }),
+        (b"\0\0\0\0\0\0\0\0", EventFault::ShortField { field: 0 }),
+        (
+            b"\0\0\xe6\x77\xd2\x1f\xdc\0",
+            EventFault::BadField { field: 0 },
+        ),
+        (b"\0\0\0\0\0\0\0\0\0", EventFault::BadKind { kind: 0 }),
+        (b"\0\0\0\0\0\0\0\0\xff", EventFault::BadKind { kind: 255 }),
+        (b"\0\0\0\0\0\0\0\0\x06", EventFault::ShortField { field: 1 }),
+        (
+            b"\0\0\0\0\0\0\0\0\x01\0\0\0\x03ab",
+            EventFault::ShortField { field: 1 },
+        ),
+        (b"\0\0\0\0\0\0\0\0\x01\x01\0\0\x01", long),
+        (b"\0\0\0\0\0\0\0\0\x01\x06\0\0\0orders", long),
+        (
+            b"\0\0\0\0\0\0\0\0\x01\0\0\0\x01\xff",
+            EventFault::BadField { field: 1 },
+        ),
+        (
+            b"\0\0\0\0\0\0\0\0\x15\0\0\0\x01q\0\0\0",
+            EventFault::ShortField { field: 2 },
+        ),
+        (
+            b"\0\0\0\0\0\0\0\0\x02\0\0\0\x01q\0\0\0\0\0\0\0\0\x02",
+            EventFault::BadField { field: 3 },
+        ),
+        (
+            b"\0\0\0\0\0\0\0\0\x02\0\0\0\x01q\0\0\0\0\0\0\0\0\x01",
+            EventFault::ShortField { field: 3 },
+        ),
+        (
+            b"\0\0\0\0\0\0\0\0\x01\0\0\0\x01q\0\0",
+            EventFault::Trailing { left: 2 },
+        ),
+    ];
+    for (bytes, expected) in cases {
+        let fault = decode(rt.alloc(), bytes).err();
+        assert_eq!(rt; fault, Some(expected));
+    }
+}
+
+fn item(rt: &HostRuntime, number: u64, text: &str) -> Result<Item, Fail> {
+    let text = Text::from_str(rt.alloc(), text)?;
+    Ok(Item {
+        number,
+        receipt: 12,
+        count: 3,
+        text,
+    })
+}
+
+#[test]
+fn each_reply_has_its_line(rt: HostRuntime) -> Result<(), Fail> {
+    let mut taken = Vec::new(rt.alloc());
+    taken.push(item(&rt, 1, "hi")?)?;
+    taken.push(item(&rt, 2, "a b%\n\u{e9}")?)?;
+    let mut peeked = Vec::new(rt.alloc());
+    peeked.push(item(&rt, 5, "")?)?;
+    let queue = QueueName::read("orders").ok_or("a queue's name")?;
+    let cases: [(Reply, &str); 16] = [
+        (Reply::Made, "ok"),
+        (Reply::There, "quiet there"),
+        (
+            Reply::Stored {
+                number: 1,
+                receipt: 2,
+            },
+            "ok 1 2",
+        ),
+        (
+            Reply::Taken {
+                items: Items::new(taken),
+            },
+            "ok 2 1:12:3:hi 2:12:3:a%20b%25%0A%C3%A9",
+        ),
+        (Reply::Empty, "quiet empty"),
+        (Reply::Updated { receipt: 7 }, "ok 7"),
+        (Reply::Deleted, "ok"),
+        (Reply::Cleared { count: 3 }, "ok 3"),
+        (
+            Reply::Peeked {
+                items: Items::new(peeked),
+            },
+            "is 1 5:3:%",
+        ),
+        (
+            Reply::Located {
+                place: Place::Waiting { queue },
+            },
+            "is waiting orders",
+        ),
+        (
+            Reply::Located {
+                place: Place::Held {
+                    queue,
+                    until: 30000,
+                },
+            },
+            "is held orders 30000",
+        ),
+        (
+            Reply::Located {
+                place: Place::Deleted,
+            },
+            "is deleted",
+        ),
+        (
+            Reply::Located {
+                place: Place::Completed { invocation: 1 },
+            },
+            "is completed 1",
+        ),
+        (
+            Reply::Located {
+                place: Place::Moved { copy: 2 },
+            },
+            "is moved 2",
+        ),
+        (
+            Reply::Located {
+                place: Place::Expired,
+            },
+            "is expired",
+        ),
+        (
+            Reply::Located {
+                place: Place::Unknown,
+            },
+            "is unknown",
+        ),
+    ];
+    for (reply, expected) in &cases {
+        let line = answer_text(rt.alloc(), Ok(reply))?;
+        assert_eq!(rt; line.as_str(), *expected);
+    }
+    Ok(())
+}
+
+#[test]
+fn each_rule_has_its_line(rt: HostRuntime) -> Result<(), Fail> {
+    let cases: [(Rule, &str); 17] = [
+        (Rule::MomentTooLate, "no 1 MomentTooLate"),
+        (Rule::BadName, "no 2 BadName"),
+        (
+            Rule::TooLarge {
+                size: 65537,
+                limit: 65536,
+            },
+            "no 3 TooLarge 65537 65536",
+        ),
+        (
+            Rule::OutOfRange {
+                given: 33,
+                low: 1,
+                high: 32,
+            },
+            "no 4 OutOfRange 33 1 32",
+        ),
+        (Rule::NoSuchFunction, "no 5 NoSuchFunction"),
+        (Rule::QueueNotFound, "no 6 QueueNotFound"),
+        (Rule::BlobNotFound, "no 7 BlobNotFound"),
+        (Rule::MessageNotFound, "no 8 MessageNotFound"),
+        (Rule::NoSuchInvocation, "no 9 NoSuchInvocation"),
+        (
+            Rule::PopReceiptMismatch { current: 2 },
+            "no 10 PopReceiptMismatch 2",
+        ),
+        (
+            Rule::LeaseHeld {
+                holder: 7,
+                until: 15000,
+            },
+            "no 11 LeaseHeld 7 15000",
+        ),
+        (Rule::LeaseMismatch { holder: 8 }, "no 12 LeaseMismatch 8"),
+        (Rule::StoreFull { live: 100000 }, "no 13 StoreFull 100000"),
+        (
+            Rule::JournalFull { length: 1073741800 },
+            "no 14 JournalFull 1073741800",
+        ),
+        (Rule::OldJournal { version: 1 }, "no 15 OldJournal 1"),
+        (
+            Rule::TokensFull { kept: 1000000 },
+            "no 16 TokensFull 1000000",
+        ),
+        (Rule::BadZone, "no 17 BadZone"),
+    ];
+    for (rule, expected) in &cases {
+        let line = answer_text(rt.alloc(), Err(rule))?;
+        assert_eq!(rt; line.as_str(), *expected);
+    }
+    Ok(())
+}
+
+#[test]
+fn a_text_is_copied(rt: HostRuntime) -> Result<(), Fail> {
+    let text = Text::from_str(rt.alloc(), "orders")?;
+    assert_eq!(rt; text.copy(rt.alloc())?.as_str(), "orders");
+    Ok(())
+}

@@ -1,0 +1,67 @@
+// A text as commands, replies and rows hold it.
+ghost use Rattle.std.specs.Prelude.{◌≡◌, length, IfOk};
+ghost use Rattle.std.specs.String.{string_bytes};
+
+use fh_base::NoMemory;
+use std::alloc::Global;
+use std::marker::Model;
+
+/// A text in UTF-8. Contracts see the list of its bytes.
+#[derive(Debug, Drop)]
+pub struct Text {
+    text: String,
+}
+
+impl Model for Text {
+    ghost use Rattle.std.specs.Prelude.{List, ℕ};
+    ghost use Rattle.std.specs.String.{string_bytes};
+
+    ghost Value = { List ℕ };
+
+    ghost view = { λ a. string_bytes a.text };
+}
+
+impl Text {
+    /// Takes no memory.
+    pub fn new(text: String) -> Text
+        ensures { result ≡ string_bytes text }
+    {
+        Text { text }
+    }
+
+    /// A text of its own with the same bytes.
+    pub fn from_str(alloc: Global, text: &str) -> Result<Text, NoMemory>
+        ensures { IfOk result (λ own. own ≡ text.now) }
+    {
+        let text = String::from_str(alloc, text)?;
+        Ok(Text { text })
+    }
+
+    pub fn as_str(&self) -> &str
+        ensures { result.now ≡ self.now }
+    {
+        self.text.as_str()
+    }
+
+    /// The number of bytes.
+    pub fn len(&self) -> usize
+        ensures { result ≡ length self.now }
+    {
+        self.as_str().len()
+    }
+
+    /// Another text with the same bytes.
+    pub fn copy(&self, alloc: Global) -> Result<Text, NoMemory>
+        ensures { IfOk result (λ own. own ≡ self.now) }
+    {
+        Text::from_str(alloc, self.as_str())
+    }
+
+    /// Takes no memory.
+    pub fn into_string(self) -> String
+        ensures { string_bytes result ≡ self }
+    {
+        let Text { text } = self;
+        text
+    }
+}

@@ -1,0 +1,148 @@
+// Writing entries.
+ghost use Rattle.std.specs.Prelude.{◌≡◌, ◌^◌, ◌<◌, ◌≤◌, ◌∷◌, ◌++◌, length, OnOk, OnErr, IfSome};
+ghost use Rattle.std.specs.List.{flat_map, AllByRecursion};
+ghost use Rattle.fh_event.specs.Fields.{number_bytes, text_bytes, maybe_bytes, text_limit, spelled, IsText, IsField};
+ghost use Rattle.fh_event.specs.Kinds.{kind_number, kind_of, fields_of};
+ghost use Rattle.fh_event.specs.Entries.{entry, HasShortTexts, AppendsEntry, Extends};
+
+use crate::command::Command;
+use crate::tables::{
+    CLEAR, DELETE, LOCATE, MAKE_QUEUE, PEEK, PUT, TAKE, UPDATE, clear, delete, locate, make_queue,
+    peek, put, take, update,
+};
+use crate::text::Text;
+use fh_base::{Moment, NoMemory};
+
+/// Appends the entry of the moment and the command, if no text has more than 16,777,216 bytes. After want of memory nothing is appended.
+#[tactic(auto, using(crate::proofs::Extending::taken_back))]
+pub fn encode(command: &Command, moment: Moment, into: &mut Vec<u8>) -> Result<(), NoMemory>
+    requires { HasShortTexts command.now }
+    ensures ok { OnOk result (AppendsEntry into.old.items into.new.items moment command.now) }
+    ensures err { OnErr result (into.new.items ≡ into.old.items) }
+{
+    let before = into.len();
+    let written = put_entry(into, moment, command);
+    if written.is_err() {
+        into.truncate(before);
+    }
+    written
+}
+
+#[tactic(auto, using(crate::proofs::Extending::extending))]
+fn put_entry(into: &mut Vec<u8>, moment: Moment, command: &Command) -> Result<(), NoMemory>
+    requires { HasShortTexts command.now }
+    ensures ok { OnOk result (AppendsEntry into.old.items into.new.items moment command.now) }
+    ensures err { OnErr result (Extends into.old.items into.new.items) }
+{
+    put_number(into, moment.ms())?;
+    into.push(kind_of(command))?;
+    put_fields(into, command)?;
+    Ok(())
+}
+
+#[tactic(auto, using(crate::proofs::Extending::extending), unfolding(crate::specs::Fields::number_bytes))]
+fn put_number(into: &mut Vec<u8>, number: u64) -> Result<(), NoMemory>
+    ensures ok { OnOk result (into.new.items ≡ into.old.items ++ number_bytes number) }
+    ensures grows { Extends into.old.items into.new.items }
+    ensures field { OnOk result (number < 2 ^ 64) }
+{
+    into.extend_from_slice(&number.to_be_bytes())?;
+    Ok(())
+}
+
+#[tactic(auto, using(crate::proofs::Extending::extending), unfolding(crate::specs::Fields::text_bytes))]
+fn put_text(into: &mut Vec<u8>, text: &Text) -> Result<(), NoMemory>
+    requires { length text.now ≤ text_limit }
+    ensures ok { OnOk result (into.new.items ≡ into.old.items ++ text_bytes text.now) }
+    ensures grows { Extends into.old.items into.new.items }
+    ensures field { OnOk result (IsText text.now) }
+{
+    into.extend_from_slice(&(text.len() as u32).to_be_bytes())?;
+    into.extend_from_slice(text.as_str().as_bytes())?;
+    Ok(())
+}
+
+#[tactic(auto, using(crate::proofs::Extending::extending), unfolding(crate::specs::Fields::maybe_bytes))]
+fn put_maybe_number(into: &mut Vec<u8>, number: &Option<u64>) -> Result<(), NoMemory>
+    ensures ok { OnOk result (into.new.items ≡ into.old.items ++ maybe_bytes number_bytes number.now) }
+    ensures grows { Extends into.old.items into.new.items }
+    ensures field { OnOk result (IfSome number.now (λ n. n < 2 ^ 64)) }
+{
+    match number {
+        None => into.push(0)?,
+        Some(number) => {
+            into.push(1)?;
+            put_number(into, *number)?;
+        }
+    }
+    Ok(())
+}
+
+#[tactic(auto, using(crate::proofs::Extending::extending), unfolding(crate::specs::Fields::maybe_bytes))]
+fn put_maybe_text(into: &mut Vec<u8>, text: &Option<Text>) -> Result<(), NoMemory>
+    requires { IfSome text.now (λ t. length t ≤ text_limit) }
+    ensures ok { OnOk result (into.new.items ≡ into.old.items ++ maybe_bytes text_bytes text.now) }
+    ensures grows { Extends into.old.items into.new.items }
+    ensures field { OnOk result (IfSome text.now IsText) }
+{
+    match text {
+        None => into.push(0)?,
+        Some(text) => {
+            into.push(1)?;
+            put_text(into, text)?;
+        }
+    }
+    Ok(())
+}
+
+// Writes the fields of a table in order.
+macro_rules! writer {
+    ([$into:ident $command:ident] $kind:literal $variant:ident { $($field:literal $name:ident: $type:ident),* }) => {{
+        let Command::$variant { $($name),* } = $command else {
+            unreachable!()
+        };
+        $(put_held!($type $into $name)?;)*
+    }};
+}
+
+macro_rules! put_held {
+    (Number $into:ident $name:ident) => { put_number($into, *$name) };
+    (Words $into:ident $name:ident) => { put_text($into, $name) };
+    (MaybeNumber $into:ident $name:ident) => { put_maybe_number($into, $name) };
+    (MaybeWords $into:ident $name:ident) => { put_maybe_text($into, $name) };
+}
+
+#[tactic(auto, using(crate::proofs::Extending::extending))]
+fn put_fields(into: &mut Vec<u8>, command: &Command) -> Result<(), NoMemory>
+    requires { HasShortTexts command.now }
+    ensures ok { OnOk result (into.new.items ≡ into.old.items ++ flat_map spelled (fields_of command.now)) }
+    ensures fields { OnOk result (AllByRecursion IsField (fields_of command.now)) }
+    ensures err { OnErr result (Extends into.old.items into.new.items) }
+{
+    match command {
+        Command::MakeQueue { .. } => make_queue!(writer into command),
+        Command::Put { .. } => put!(writer into command),
+        Command::Take { .. } => take!(writer into command),
+        Command::Update { .. } => update!(writer into command),
+        Command::Delete { .. } => delete!(writer into command),
+        Command::Clear { .. } => clear!(writer into command),
+        Command::Peek { .. } => peek!(writer into command),
+        Command::Locate { .. } => locate!(writer into command),
+    }
+    Ok(())
+}
+
+fn kind_of(command: &Command) -> u8
+    ensures { result ≡ kind_number (kind_of command.now) }
+{
+    match command {
+        Command::MakeQueue { .. } => MAKE_QUEUE.kind,
+        Command::Put { .. } => PUT.kind,
+        Command::Take { .. } => TAKE.kind,
+        Command::Update { .. } => UPDATE.kind,
+        Command::Delete { .. } => DELETE.kind,
+        Command::Clear { .. } => CLEAR.kind,
+        Command::Peek { .. } => PEEK.kind,
+        Command::Locate { .. } => LOCATE.kind,
+    }
+}
