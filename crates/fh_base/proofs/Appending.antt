@@ -1,5 +1,5 @@
 -- Bytes that are appended to known ones in turn.
-use Rattle.std.proofs.Common.{◌≡◌, ℕ, ◌+◌, List, ◌++◌, take, drop, Option, Some, None, sym, ◌∙◌, ap, append_assoc, take-add}
+use Rattle.std.proofs.Common.{ℕ, ◌+◌, List, ◌++◌, take, drop, Option, Some, None, ◌∙◌, ap, append_assoc, take-add}
 use Rattle.std.specs.Io.KnownBytes.{Appends}
 
 pub appends-append : (was mid now : Option (List ℕ)) (first second : List ℕ) → Appends was mid first → Appends mid now second → Appends was now (first ++ second)

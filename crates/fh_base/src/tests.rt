@@ -1,5 +1,6 @@
 use super::*;
 use std::test::Fail;
+use std::{fs, process};
 
 #[test]
 fn the_last_millisecond_of_9999_is_the_greatest_moment(rt: HostRuntime) {
@@ -38,5 +39,66 @@ fn a_poison_queue_has_none(rt: HostRuntime) -> Result<(), Fail> {
     let poison = poison_of(&orders).ok_or("a poison queue")?;
     assert_eq!(rt; poison.as_bytes(), b"orders-poison".as_slice());
     assert!(rt; poison_of(&poison).is_none());
+    Ok(())
+}
+
+#[test]
+fn a_queue_name_of_each_form(rt: HostRuntime) {
+    let cases = [
+        ("abc", true),
+        ("a-b", true),
+        ("9a9", true),
+        ("ab", false),
+        ("a--b", false),
+        ("-ab", false),
+        ("ab-", false),
+        ("aBc", false),
+        ("a_b", false),
+        ("", false),
+        (
+            "aaaaaaaaaaaaaaaaaaaaaaaaaaaaaaaaaaaaaaaaaaaaaaaaaaaaaaaaaaaaaaa",
+            true,
+        ),
+        (
+            "aaaaaaaaaaaaaaaaaaaaaaaaaaaaaaaaaaaaaaaaaaaaaaaaaaaaaaaaaaaaaaaa",
+            false,
+        ),
+    ];
+    for (text, is_name) in cases {
+        assert_eq!(rt; QueueName::read(text).is_some(), is_name);
+    }
+}
+
+#[test]
+fn memory_streams_fail_at_their_listed_calls(rt: HostRuntime) -> Result<(), Fail> {
+    let alloc = rt.alloc();
+    let second = vec![in alloc; 2]?;
+    let plan = FaultPlan::new(Failing::Listed { calls: second });
+    let mut source = MemorySource::new(b"ab".to_vec(alloc)?, plan);
+    assert_eq!(rt; read_byte(&mut source), Ok(Some(b'a')));
+    assert_eq!(rt; read_byte(&mut source), Err(Failed));
+    assert_eq!(rt; read_byte(&mut source), Ok(Some(b'b')));
+    assert_eq!(rt; read_byte(&mut source), Ok(None));
+    let mut sink = MemorySink::new(alloc, FaultPlan::new(Failing::After { passed: 1 }));
+    assert_eq!(rt; write_all(&mut sink, b"one"), Ok(()));
+    assert_eq!(rt; write_all(&mut sink, b"two"), Err(Failed));
+    assert_eq!(rt; sink.bytes.as_slice(), b"one".as_slice());
+    Ok(())
+}
+
+#[test]
+fn streams_over_a_real_file(rt: HostRuntime) -> Result<(), Fail> {
+    let alloc = rt.alloc();
+    let path = format!(in alloc; "/tmp/fnhost-streams-{}", process::id(rt.process()))?;
+    let mut sink = StreamSink::new(fs::create(&rt, path.as_str())?);
+    assert_eq!(rt; write_all(&mut sink, b"xy"), Ok(()));
+    let opened = StreamSource::new(alloc, fs::open(&rt, path.as_str())?);
+    let Ok(mut source) = opened else {
+        return Err(Fail::from("no memory"));
+    };
+    assert_eq!(rt; read_byte(&mut source), Ok(Some(b'x')));
+    assert_eq!(rt; read_byte(&mut source), Ok(Some(b'y')));
+    assert_eq!(rt; read_byte(&mut source), Ok(None));
+    fs::remove_file(&rt, path.as_str())?;
     Ok(())
 }

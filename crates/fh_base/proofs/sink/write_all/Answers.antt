@@ -1,4 +1,4 @@
-use Rattle.std.proofs.Common.{◌≡◌, ◌+◌, ◌≤◌, List, ℕ, length, take, drop, arith, ap, sym, ◌∙◌, length-drop, subst}
+use Rattle.std.proofs.Common.{List, ℕ, length, take, arith, ap, ◌∙◌, length-drop, subst}
 use Rattle.std.specs.Io.KnownBytes.{Appends}
 use Rattle.fh_base.proofs.Appending.{appends_more}
 use Rattle.fh_base.proofs.sink.write_all.Goals as goal
