@@ -13,3 +13,6 @@ mod reading;
 pub use faults::{AppendFault, MountFault};
 pub use journal::Journal;
 pub use mounting::prepare;
+
+#[cfg(test)]
+mod tests;

@@ -13,3 +13,6 @@ mod words;
 pub use answers::Answer;
 pub use ends::End;
 pub use running::script;
+
+#[cfg(test)]
+mod tests;
