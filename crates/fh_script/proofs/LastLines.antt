@@ -18,11 +18,11 @@ take-nothing (suc n) = refl
 -- what was written behind a text that nothing stood behind
 behind_texts : (was mid now : Option (List ℕ)) (text behind : List ℕ) → Appends was mid (text ++ []) → Appends mid now behind → Appends was now (text ++ behind)
 behind_texts was mid now text behind one two =
-  appends-append was mid now text behind (subst (λ (t : List ℕ). Appends was mid t) (append-nil text) one) two
+    appends-append was mid now text behind (subst (λ (t : List ℕ). Appends was mid t) (append-nil text) one) two
 
 module _ (was mid : Outside) (written : Option (List ℕ)) (faults : ℕ) where
   wrote_behind : (done more : List (List ℕ)) (behind : List ℕ) → Wrote was mid done more [] → Appends mid.written written behind
-    → Wrote was (record mid { written = written; write_faults = faults }) done more behind
+      → Wrote was (record mid { written = written; write_faults = faults }) done more behind
   wrote_behind done more behind it writes = record {
     read = it.read;
     short = it.short;
@@ -30,7 +30,7 @@ module _ (was mid : Outside) (written : Option (List ℕ)) (faults : ℕ) where
   }
 
   answered_behind : (more : List (List ℕ)) (behind : List ℕ) → Answered was mid more [] → Appends mid.written written behind
-    → Answered was (record mid { written = written; write_faults = faults }) more behind
+      → Answered was (record mid { written = written; write_faults = faults }) more behind
   answered_behind more behind it writes = record {
     done = it.done;
     wrote = wrote_behind it.done more behind it.wrote writes;
@@ -50,7 +50,7 @@ module _ (was mid : Outside) (written : Option (List ℕ)) (faults : ℕ) where
       read = it.wrote.read;
       short = it.wrote.short;
       texts =
-        subst (λ (t : List ℕ). Appends was.written written t)
+          subst (λ (t : List ℕ). Appends was.written written t)
           (append-nil ((run it.done).written ++ take it.written (printed (answer_line (run it.done).world it.line).answer)))
           (appends-append was.written mid.written written _ [] it.wrote.texts writes);
     };
@@ -63,22 +63,22 @@ module _ (was mid : Outside) (written : Option (List ℕ)) (faults : ℕ) where
   rose_on before later rose = omega (arith, later, rose)
 
   reason_behind : (end : End) (n : ℕ) → HasReason was mid [] end → mid.write_faults ≤ faults → Appends mid.written written (take n (last_line end))
-    → HasReason was (record mid { written = written; write_faults = faults }) (take n (last_line end)) end
+      → HasReason was (record mid { written = written; write_faults = faults }) (take n (last_line end)) end
   reason_behind Finished n reason later writes = (answered_behind [] _ reason.0 writes, reason.1)
   reason_behind Usage n reason later writes = (appends-append was.written mid.written written [] _ reason.0 writes, reason.1)
   reason_behind Damaged n reason later writes = (reason.0, reason.1, appends-append was.written mid.written written [] _ reason.2 writes)
   reason_behind ReadFault n reason later writes = (reason.0, (reason.1.0, answered_behind reason.1.0 _ reason.1.1 writes))
   reason_behind DiskFault n reason later writes =
-    (reason.0, (reason.1.0, (reason.1.1.0, wrote_behind reason.1.0 reason.1.1.0 _ reason.1.1.1 writes)))
+      (reason.0, (reason.1.0, (reason.1.1.0, wrote_behind reason.1.0 reason.1.1.0 _ reason.1.1.1 writes)))
   reason_behind WriteFault n reason later writes =
-    (rose_on was.write_faults later reason.0, cut_off_behind reason.1 (subst (λ (t : List ℕ). Appends mid.written written t) (take-nothing n) writes))
+      (rose_on was.write_faults later reason.0, cut_off_behind reason.1 (subst (λ (t : List ℕ). Appends mid.written written t) (take-nothing n) writes))
   reason_behind LongLine n reason later writes = (reason.0, (reason.1.0, answered_behind reason.0 _ reason.1.1 writes))
   reason_behind NoMemory n reason later writes = (reason.0, answered_behind reason.0 _ reason.1 writes)
 
   -- a run that has a reason to end, and then writes its last line
   pub ends_by : (end : End) (code : ℕ) → code ≡ code_of end → HasReason was mid [] end → was.write_faults ≤ mid.write_faults
-    → mid.write_faults ≤ faults → Concludes mid.written written (last_line end) mid.write_faults faults
-    → EndsBy was (record mid { written = written; write_faults = faults }) code
+      → mid.write_faults ≤ faults → Concludes mid.written written (last_line end) mid.write_faults faults
+      → EndsBy was (record mid { written = written; write_faults = faults }) code
   ends_by end code status reason before later concludes = record {
     end = end;
     status = status;

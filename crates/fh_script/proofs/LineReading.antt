@@ -26,52 +26,52 @@ rest_plain b line plain = by_cases (is_line_feed b) (is_plain line) plain
 lines-ended : (line rest : List ℕ) → is_plain line ≡ true → lines (line ++ 10 ∷ rest) ≡ (line ++ 10 ∷ []) ∷ lines rest
 lines-ended [] rest plain = refl
 lines-ended (b ∷ line) rest plain =
-  rw (first_plain b line plain) (ap (before_lines b) (lines-ended line rest (rest_plain b line plain)))
+    rw (first_plain b line plain) (ap (before_lines b) (lines-ended line rest (rest_plain b line plain)))
 
 lines-last : (b : ℕ) (line : List ℕ) → is_plain (b ∷ line) ≡ true → lines (b ∷ line) ≡ (b ∷ line) ∷ []
 lines-last b [] plain = rw (first_plain b [] plain) refl
 lines-last b (d ∷ line) plain =
-  rw (first_plain b (d ∷ line) plain) (ap (before_lines b) (lines-last d line (rest_plain b (d ∷ line) plain)))
+    rw (first_plain b (d ∷ line) plain) (ap (before_lines b) (lines-last d line (rest_plain b (d ∷ line) plain)))
 
 pub line_length-ended : (line : List ℕ) → is_plain line ≡ true → line_length (line ++ 10 ∷ []) ≡ length line
 line_length-ended [] plain = refl
 line_length-ended (b ∷ line) plain =
-  rw (first_plain b line plain) (omega (arith, line_length-ended line (rest_plain b line plain)))
+    rw (first_plain b line plain) (omega (arith, line_length-ended line (rest_plain b line plain)))
 
 pub length-le-line_length : (line rest : List ℕ) → is_plain line ≡ true → length line ≤ line_length (line ++ rest)
 length-le-line_length [] rest plain = omega arith
 length-le-line_length (b ∷ line) rest plain =
-  rw (first_plain b line plain) (omega (arith, length-le-line_length line rest (rest_plain b line plain)))
+    rw (first_plain b line plain) (omega (arith, length-le-line_length line rest (rest_plain b line plain)))
 
 consumes-append : (was mid now : Option (List ℕ)) (first second : List ℕ) → Consumes was mid first → Consumes mid now second → Consumes was now (first ++ second)
 consumes-append None mid now first second one two = tt
 consumes-append (Some a) None now first second one two = absurd one
 consumes-append (Some a) (Some b) None first second one two = absurd two
 consumes-append (Some a) (Some b) (Some d) first second one two =
-  one ∙ ap (λ (l : List ℕ). first ++ l) two ∙ sym (append_assoc first second d)
+    one ∙ ap (λ (l : List ℕ). first ++ l) two ∙ sym (append_assoc first second d)
 
 -- a line with its line feed was read
 pub reads_ended : (was mid now : Option (List ℕ)) (line : List ℕ) → is_plain line ≡ true
-  → Consumes was mid line → Consumes mid now (10 ∷ []) → ReadsLine was now (line ++ 10 ∷ []) true
+    → Consumes was mid line → Consumes mid now (10 ∷ []) → ReadsLine was now (line ++ 10 ∷ []) true
 reads_ended None mid now line plain one two = tt
 reads_ended (Some a) None now line plain one two = absurd one
 reads_ended (Some a) (Some b) None line plain one two = absurd two
 reads_ended (Some a) (Some b) (Some d) line plain one two =
-  ap lines (one ∙ ap (λ (l : List ℕ). line ++ l) two) ∙ lines-ended line d plain
+    ap lines (one ∙ ap (λ (l : List ℕ). line ++ l) two) ∙ lines-ended line d plain
 
 -- the source was at its end behind the line
 pub reads_last : (was mid now : Option (List ℕ)) (line : List ℕ) → is_plain line ≡ true → 0 < length line
-  → Consumes was mid line → Consumes mid now [] × IsAtEnd now → ReadsLine was now line true
+    → Consumes was mid line → Consumes mid now [] × IsAtEnd now → ReadsLine was now line true
 reads_last None mid now line plain some one two = tt
 reads_last (Some a) None now line plain some one two = absurd one
 reads_last (Some a) (Some b) None line plain some one two = absurd two.0
 reads_last (Some a) (Some b) (Some d) [] plain some one two = absurd (omega (arith, some))
 reads_last (Some a) (Some b) (Some d) (e ∷ line) plain some one two =
-  let ended : a ≡ e ∷ line = one ∙ ap (λ (l : List ℕ). (e ∷ line) ++ l) (two.0 ∙ two.1) ∙ append-nil (e ∷ line) in
-  ap lines ended ∙ lines-last e line plain ∙ ap (λ (l : List ℕ). (e ∷ line) ∷ lines l) (sym two.1)
+    let ended : a ≡ e ∷ line = one ∙ ap (λ (l : List ℕ). (e ∷ line) ++ l) (two.0 ∙ two.1) ∙ append-nil (e ∷ line) in
+    ap lines ended ∙ lines-last e line plain ∙ ap (λ (l : List ℕ). (e ∷ line) ∷ lines l) (sym two.1)
 
 pub reads_none : (was mid now : Option (List ℕ)) (line : List ℕ) → length line ≡ 0
-  → Consumes was mid line → Consumes mid now [] × IsAtEnd now → ReadsLine was now line false
+    → Consumes was mid line → Consumes mid now [] × IsAtEnd now → ReadsLine was now line false
 reads_none None mid now line none one two = two.1
 reads_none (Some a) None now line none one two = absurd one
 reads_none (Some a) (Some b) None line none one two = absurd two.0
@@ -94,10 +94,10 @@ line_length-le (b ∷ line) = by_cases (is_line_feed b) (line_length-le line)
 pub plain-push : (line : List ℕ) (b : ℕ) → is_plain line ≡ true → (b ≡ 10 → ⊥) → is_plain (line ++ b ∷ []) ≡ true
 plain-push [] b plain other = grind (arith, nat_tests)
 plain-push (d ∷ line) b plain other =
-  rw (first_plain d line plain) (plain-push line b (rest_plain d line plain) other)
+    rw (first_plain d line plain) (plain-push line b (rest_plain d line plain) other)
 
 -- one more byte that is no line feed
 pub starts_longer : (was mid now : Option (List ℕ)) (line new : List ℕ) (b : ℕ) → is_plain line ≡ true → (b ≡ 10 → ⊥) → new ≡ line ++ b ∷ []
-  → Consumes was mid line → Consumes mid now (b ∷ []) → 140000 < length new → StartsLong was
+    → Consumes was mid line → Consumes mid now (b ∷ []) → 140000 < length new → StartsLong was
 starts_longer was mid now line new b plain other is one two long =
-  starts_long was now (line ++ b ∷ []) (plain-push line b plain other) (consumes-append was mid now line (b ∷ []) one two) (rw is at long)
+    starts_long was now (line ++ b ∷ []) (plain-push line b plain other) (consumes-append was mid now line (b ∷ []) one two) (rw is at long)

@@ -29,21 +29,21 @@ both_true true b first second = second
 both_true false b first second = first
 
 short-push : (done : List (List ℕ)) (line : List ℕ) → list_all is_short_line done ≡ true → line_length line ≤ 140000
-  → list_all is_short_line (done ++ line ∷ []) ≡ true
+    → list_all is_short_line (done ++ line ∷ []) ≡ true
 short-push done line short fits =
-  let one : list_all is_short_line (line ∷ []) ≡ true = both_true (is_short_line line) true (le-leb (line_length line) 140000 fits) refl in
-  list_all-append is_short_line done (line ∷ []) ∙ both_true _ _ short one
+    let one : list_all is_short_line (line ∷ []) ≡ true = both_true (is_short_line line) true (le-leb (line_length line) 140000 fits) refl in
+    list_all-append is_short_line done (line ∷ []) ∙ both_true _ _ short one
 
 reads-push : (was mid now : Option (List ℕ)) (done : List (List ℕ)) (line : List ℕ) → Reads was mid done → ReadsLine mid now line true
-  → Reads was now (done ++ line ∷ [])
+    → Reads was now (done ++ line ∷ [])
 reads-push None mid now done line one two = tt
 reads-push (Some a) None now done line one two = absurd one
 reads-push (Some a) (Some b) None done line one two = absurd two
 reads-push (Some a) (Some b) (Some d) done line one two =
-  one ∙ ap (λ (l : List (List ℕ)). done ++ l) two ∙ sym (append_assoc done (line ∷ []) (lines d))
+    one ∙ ap (λ (l : List (List ℕ)). done ++ l) two ∙ sym (append_assoc done (line ∷ []) (lines d))
 
 pub begins : (left written told : Option (List ℕ)) (first : World) → first ≡ opening.world → StandsFor told [] first.gate
-  → IsRunning left left written written told first
+    → IsRunning left left written written told first
 begins left written told first is stands = record {
   done = [];
   read = nothing left;
@@ -58,15 +58,15 @@ begins left written told first is stands = record {
     nothing (Some a) = refl
 
 pub one_more : (was_left mid_left left was_written mid_written written mid_told told : Option (List ℕ)) (mid now : World) (line text : List ℕ)
-  → IsRunning was_left mid_left was_written mid_written mid_told mid → ReadsLine mid_left left line true → line_length line ≤ 140000
-  → Records mid now mid_told told (answer_line mid line) → text ≡ printed (answer_line mid line).answer → Appends mid_written written text
-  → IsRunning was_left left was_written written told now
+    → IsRunning was_left mid_left was_written mid_written mid_told mid → ReadsLine mid_left left line true → line_length line ≤ 140000
+    → Records mid now mid_told told (answer_line mid line) → text ≡ printed (answer_line mid line).answer → Appends mid_written written text
+    → IsRunning was_left left was_written written told now
 one_more was_left mid_left left was_written mid_written written mid_told told mid now line text running reads fits records is writes = record {
   done = running.done ++ line ∷ [];
   read = reads-push was_left mid_left left running.done line running.read reads;
   short = short-push running.done line running.short fits;
   texts =
-    rw (run-push running.done line, ← running.leaves, ← is)
+      rw (run-push running.done line, ← running.leaves, ← is)
       (appends-append was_written mid_written written (run running.done).written text running.texts writes);
   stands = rw (run-push running.done line, ← running.leaves) (records.stands (run running.done).entries running.stands);
   leaves = rw (run-push running.done line, ← running.leaves) records.world;
@@ -83,7 +83,7 @@ has_lines (Some a) None done read = absurd read
 has_lines (Some a) (Some b) done read = read
 
 wrote : (was now : Outside) (left mid_told : Option (List ℕ)) (world : World) (running : IsRunning was.left left was.written now.written mid_told world)
-  → Wrote was now running.done (rest_of left) []
+    → Wrote was now running.done (rest_of left) []
 wrote was now left mid_told world running = record {
   read = has_lines was.left left running.done running.read;
   short = running.short;
@@ -91,7 +91,7 @@ wrote was now left mid_told world running = record {
 }
 
 answered : (was now : Outside) (left mid_told : Option (List ℕ)) (world : World) → IsRunning was.left left was.written now.written mid_told world
-  → now.told ≡ mid_told → IfSome was.told (λ file. length file ≤ 7) → Answered was now (rest_of left) []
+    → now.told ≡ mid_told → IfSome was.told (λ file. length file ≤ 7) → Answered was now (rest_of left) []
 answered was now left mid_told world running same short = record {
   done = running.done;
   wrote = wrote was now left mid_told world running;
@@ -101,8 +101,8 @@ answered was now left mid_told world running same short = record {
 }
 
 pub finished : (was now : Outside) (left : Option (List ℕ)) (world : World) (line : List ℕ)
-  → IsRunning was.left left was.written now.written now.told world → ReadsLine left now.left line false → IfSome was.told (λ file. length file ≤ 7)
-  → HasReason was now [] Finished
+    → IsRunning was.left left was.written now.written now.told world → ReadsLine left now.left line false → IfSome was.told (λ file. length file ≤ 7)
+    → HasReason was now [] Finished
 finished was now left world line running reads short = (
   record {
     done = running.done;
@@ -123,6 +123,7 @@ finished was now left world line running reads short = (
     at_end (Some a) None n done one two = absurd one
     at_end (Some a) (Some b) None done one two = absurd two
     at_end (Some a) (Some b) (Some d) done one two = one ∙ ap (λ (l : List ℕ). done ++ lines l) two.0
+
     ended : (m n : Option (List ℕ)) → ReadsLine m n line false → IsAtEnd n
     ended None n two = two
     ended (Some b) None two = absurd two
@@ -139,8 +140,9 @@ line_length-first_of (b ∷ rest) = by_cases (is_line_feed b) refl (line_length-
     in_front : (l : List (List ℕ)) → is_line_feed b ≡ false → line_length (first_of (before_lines b l)) ≡ line_length (first_of l) + 1
     in_front [] plain = rw plain refl
     in_front (line ∷ more) plain = rw plain refl
+
     by_cases : (f : Bool) → is_line_feed b ≡ f → line_length (first_of (lines rest)) ≡ line_length rest
-      → line_length (first_of (lines (b ∷ rest))) ≡ line_length (b ∷ rest)
+        → line_length (first_of (lines (b ∷ rest))) ≡ line_length (b ∷ rest)
     by_cases true feed behind = rw feed (rw feed refl)
     by_cases false plain behind = rw plain (in_front (lines rest) plain ∙ ap (λ (n : ℕ). n + 1) behind)
 
@@ -158,34 +160,34 @@ rose_since first before now later rose = omega (arith, later, rose)
 
 -- a run ends where no line was read
 pub line_stops : (was now : Outside) (left : Option (List ℕ)) (world : World) (before : ℕ) (end : End)
-  → IsRunning was.left left was.written now.written now.told world → HasLineReason left before now.read_faults end
-  → was.read_faults ≤ before → IfSome was.told (λ file. length file ≤ 7) → HasReason was now [] end
+    → IsRunning was.left left was.written now.written now.told world → HasLineReason left before now.read_faults end
+    → was.read_faults ≤ before → IfSome was.told (λ file. length file ≤ 7) → HasReason was now [] end
 line_stops was now left world before Finished running reason later short = absurd reason
 line_stops was now left world before Usage running reason later short = absurd reason
 line_stops was now left world before Damaged running reason later short = absurd reason
 line_stops was now left world before ReadFault running reason later short =
-  (rose_since _ _ _ later reason, (rest_of left, answered was now left now.told world running refl short))
+    (rose_since _ _ _ later reason, (rest_of left, answered was now left now.told world running refl short))
 line_stops was now left world before DiskFault running reason later short = absurd reason
 line_stops was now left world before WriteFault running reason later short = absurd reason
 line_stops was now left world before LongLine running reason later short =
-  (rest_of left, (long_next was.left left running.done running.read reason, answered was now left now.told world running refl short))
+    (rest_of left, (long_next was.left left running.done running.read reason, answered was now left now.told world running refl short))
 line_stops was now left world before NoMemory running reason later short =
-  (rest_of left, answered was now left now.told world running refl short)
+    (rest_of left, answered was now left now.told world running refl short)
 
 -- a run ends where a line has no answer
 pub answer_stops : (was now : Outside) (left mid_told : Option (List ℕ)) (world : World) (before : ℕ) (end : End)
-  → IsRunning was.left left was.written now.written mid_told world → StopsFor mid_told now.told before now.disk_faults end
-  → was.disk_faults ≤ before → IfSome was.told (λ file. length file ≤ 7) → HasReason was now [] end
+    → IsRunning was.left left was.written now.written mid_told world → StopsFor mid_told now.told before now.disk_faults end
+    → was.disk_faults ≤ before → IfSome was.told (λ file. length file ≤ 7) → HasReason was now [] end
 answer_stops was now left mid_told world before Finished running reason later short = absurd reason
 answer_stops was now left mid_told world before Usage running reason later short = absurd reason
 answer_stops was now left mid_told world before Damaged running reason later short = absurd reason
 answer_stops was now left mid_told world before ReadFault running reason later short = absurd reason
 answer_stops was now left mid_told world before DiskFault running reason later short =
-  (rose_since _ _ _ later reason, (running.done, (rest_of left, wrote was now left mid_told world running)))
+    (rose_since _ _ _ later reason, (running.done, (rest_of left, wrote was now left mid_told world running)))
 answer_stops was now left mid_told world before WriteFault running reason later short = absurd reason
 answer_stops was now left mid_told world before LongLine running reason later short = absurd reason
 answer_stops was now left mid_told world before NoMemory running reason later short =
-  (rest_of left, answered was now left mid_told world running reason short)
+    (rest_of left, answered was now left mid_told world running reason short)
 
 -- a run ends before its first line
 pub mount_stops : (was now : Outside) → now.written ≡ was.written → Rose was.disk_faults now.disk_faults → HasReason was now [] DiskFault
@@ -209,7 +211,7 @@ mount_stops was now same rose = (
     nothing (Some a) = refl
 
 has_next : (was left now : Option (List ℕ)) (done : List (List ℕ)) (line : List ℕ) → Reads was left done → ReadsLine left now line true
-  → HasLines was (done ++ line ∷ rest_of now)
+    → HasLines was (done ++ line ∷ rest_of now)
 has_next None left now done line one two = tt
 has_next (Some a) None now done line one two = absurd one
 has_next (Some a) (Some b) None done line one two = absurd two
@@ -217,10 +219,10 @@ has_next (Some a) (Some b) (Some d) done line one two = one ∙ ap (λ (l : List
 
 -- a run ends where an answer is written in part
 pub write_stops : (was now : Outside) (left mid_written mid_told : Option (List ℕ)) (world world' : World) (line text : List ℕ) (written before : ℕ)
-  → IsRunning was.left left was.written mid_written mid_told world → ReadsLine left now.left line true
-  → Records world world' mid_told now.told (answer_line world line) → text ≡ printed (answer_line world line).answer
-  → written < length text → Appends mid_written now.written (take written text) → was.write_faults ≤ before → Rose before now.write_faults
-  → IfSome was.told (λ file. length file ≤ 7) → HasReason was now [] WriteFault
+    → IsRunning was.left left was.written mid_written mid_told world → ReadsLine left now.left line true
+    → Records world world' mid_told now.told (answer_line world line) → text ≡ printed (answer_line world line).answer
+    → written < length text → Appends mid_written now.written (take written text) → was.write_faults ≤ before → Rose before now.write_faults
+    → IfSome was.told (λ file. length file ≤ 7) → HasReason was now [] WriteFault
 write_stops was now left mid_written mid_told world world' line text written before running reads records is part writes later rose short = (
   rose_since _ _ _ later rose,
   record {
@@ -233,7 +235,7 @@ write_stops was now left mid_written mid_told world world' line text written bef
       read = has_next was.left left now.left running.done line running.read reads;
       short = running.short;
       texts =
-        rw (← running.leaves, ← is)
+          rw (← running.leaves, ← is)
           (appends-append was.written mid_written now.written (run running.done).written (take written text) running.texts writes);
     };
     gate = world'.gate;
@@ -243,7 +245,7 @@ write_stops was now left mid_written mid_told world world' line text written bef
 )
 
 from_wrote : (was mid now : Outside) (done more : List (List ℕ)) (behind : List ℕ) → mid.left ≡ was.left → mid.written ≡ was.written
-  → Wrote mid now done more behind → Wrote was now done more behind
+    → Wrote mid now done more behind → Wrote was now done more behind
 from_wrote was mid now done more behind left written it = record {
   read = subst (λ (l : Option (List ℕ)). HasLines l (done ++ more)) left it.read;
   short = it.short;
@@ -251,7 +253,7 @@ from_wrote was mid now done more behind left written it = record {
 }
 
 from_answered : (was mid now : Outside) (more : List (List ℕ)) → mid.left ≡ was.left → mid.written ≡ was.written
-  → IfSome was.told (λ file. length file ≤ 7) → Answered mid now more [] → Answered was now more []
+    → IfSome was.told (λ file. length file ≤ 7) → Answered mid now more [] → Answered was now more []
 from_answered was mid now more left written short it = record {
   done = it.done;
   wrote = from_wrote was mid now it.done more [] left written it.wrote;
@@ -261,7 +263,7 @@ from_answered was mid now more left written short it = record {
 }
 
 from_cut_off : (was mid now : Outside) → mid.left ≡ was.left → mid.written ≡ was.written
-  → IfSome was.told (λ file. length file ≤ 7) → CutOff mid now → CutOff was now
+    → IfSome was.told (λ file. length file ≤ 7) → CutOff mid now → CutOff was now
 from_cut_off was mid now left written short it = record {
   done = it.done;
   line = it.line;
@@ -276,28 +278,28 @@ from_cut_off was mid now left written short it = record {
 
 -- the same reason of a run that began with mounting
 pub from_start : (was mid now : Outside) (end : End) → mid.left ≡ was.left → mid.written ≡ was.written → mid.read_faults ≡ was.read_faults
-  → mid.write_faults ≡ was.write_faults → was.disk_faults ≤ mid.disk_faults → IfSome was.told (λ file. length file ≤ 7)
-  → (end ≡ Usage → ⊥) → (end ≡ Damaged → ⊥) → HasReason mid now [] end → HasReason was now [] end
+    → mid.write_faults ≡ was.write_faults → was.disk_faults ≤ mid.disk_faults → IfSome was.told (λ file. length file ≤ 7)
+    → (end ≡ Usage → ⊥) → (end ≡ Damaged → ⊥) → HasReason mid now [] end → HasReason was now [] end
 from_start was mid now Finished left written reads writes disk short asked whole reason = (from_answered was mid now [] left written short reason.0, reason.1)
 from_start was mid now Usage left written reads writes disk short asked whole reason = absurd (asked refl)
 from_start was mid now Damaged left written reads writes disk short asked whole reason = absurd (whole refl)
 from_start was mid now ReadFault left written reads writes disk short asked whole reason =
-  (subst (λ (n : ℕ). Rose n now.read_faults) reads reason.0, (reason.1.0, from_answered was mid now reason.1.0 left written short reason.1.1))
+    (subst (λ (n : ℕ). Rose n now.read_faults) reads reason.0, (reason.1.0, from_answered was mid now reason.1.0 left written short reason.1.1))
 from_start was mid now DiskFault left written reads writes disk short asked whole reason =
-  (rose_since _ _ _ disk reason.0, (reason.1.0, (reason.1.1.0, from_wrote was mid now reason.1.0 reason.1.1.0 [] left written reason.1.1.1)))
+    (rose_since _ _ _ disk reason.0, (reason.1.0, (reason.1.1.0, from_wrote was mid now reason.1.0 reason.1.1.0 [] left written reason.1.1.1)))
 from_start was mid now WriteFault left written reads writes disk short asked whole reason =
-  (subst (λ (n : ℕ). Rose n now.write_faults) writes reason.0, from_cut_off was mid now left written short reason.1)
+    (subst (λ (n : ℕ). Rose n now.write_faults) writes reason.0, from_cut_off was mid now left written short reason.1)
 from_start was mid now LongLine left written reads writes disk short asked whole reason =
-  (reason.0, (subst (λ (l : Option (List ℕ)). IsLongNext l reason.0) left reason.1.0, from_answered was mid now reason.0 left written short reason.1.1))
+    (reason.0, (subst (λ (l : Option (List ℕ)). IsLongNext l reason.0) left reason.1.0, from_answered was mid now reason.0 left written short reason.1.1))
 from_start was mid now NoMemory left written reads writes disk short asked whole reason =
-  (reason.0, from_answered was mid now reason.0 left written short reason.1)
+    (reason.0, from_answered was mid now reason.0 left written short reason.1)
 
 -- the same reason, told by an equal disk
 pub from_disk : {D : Type 0} (told : D → Option (List ℕ)) (faults : D → ℕ) (now known : D) → now ≡ known
-  → (was : Outside) (left written : Option (List ℕ)) (reads writes : ℕ) (end : End)
-  → HasReason was (record { left = left; read_faults = reads; written = written; write_faults = writes; told = told known; disk_faults = faults known }) [] end
-  → HasReason was (record { left = left; read_faults = reads; written = written; write_faults = writes; told = told now; disk_faults = faults now }) [] end
+    → (was : Outside) (left written : Option (List ℕ)) (reads writes : ℕ) (end : End)
+    → HasReason was (record { left = left; read_faults = reads; written = written; write_faults = writes; told = told known; disk_faults = faults known }) [] end
+    → HasReason was (record { left = left; read_faults = reads; written = written; write_faults = writes; told = told now; disk_faults = faults now }) [] end
 from_disk {D} told faults now known same was left written reads writes end reason =
-  subst
+    subst
     (λ (d : D). HasReason was (record { left = left; read_faults = reads; written = written; write_faults = writes; told = told d; disk_faults = faults d }) [] end)
     (sym same) reason

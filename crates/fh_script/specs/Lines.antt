@@ -28,9 +28,9 @@ line_length (b ∷ rest) = if is_line_feed b then 0 else line_length rest + 1
 -- the line without its line feed, and without one carriage return before that
 abbrev pub line_text : List ℕ → List ℕ
 line_text line =
-  if ends_with nat_eq line (13 ∷ 10 ∷ []) then take (length line - 2) line
-  else if ends_with nat_eq line (10 ∷ []) then take (length line - 1) line
-  else line
+    if ends_with nat_eq line (13 ∷ 10 ∷ []) then take (length line - 2) line
+    else if ends_with nat_eq line (10 ∷ []) then take (length line - 1) line
+    else line
 
 -- where a source tells: the first of its lines was read, or there was none
 abbrev pub ReadsLine : Option (List ℕ) → Option (List ℕ) → List ℕ → Bool → Type 0

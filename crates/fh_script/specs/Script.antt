@@ -73,10 +73,10 @@ abbrev pub HasReason : Outside → Outside → List ℕ → End → Type 0
 HasReason was now behind Finished = Answered was now [] behind × IsAtEnd now.left
 HasReason was now behind Usage = Appends was.written now.written behind × (now.told ≡ was.told)
 HasReason was now behind Damaged =
-  IfSome was.told (λ file. 7 < length file) × (now.told ≡ was.told) × Appends was.written now.written behind
+    IfSome was.told (λ file. 7 < length file) × (now.told ≡ was.told) × Appends was.written now.written behind
 HasReason was now behind ReadFault = Rose was.read_faults now.read_faults × ((more : List (List ℕ)) × Answered was now more behind)
 HasReason was now behind DiskFault =
-  Rose was.disk_faults now.disk_faults × ((done : List (List ℕ)) × ((more : List (List ℕ)) × Wrote was now done more behind))
+    Rose was.disk_faults now.disk_faults × ((done : List (List ℕ)) × ((more : List (List ℕ)) × Wrote was now done more behind))
 HasReason was now behind WriteFault = Rose was.write_faults now.write_faults × CutOff was now
 HasReason was now behind LongLine = (more : List (List ℕ)) × (IsLongNext was.left more × Answered was now more behind)
 HasReason was now behind NoMemory = (more : List (List ℕ)) × Answered was now more behind

@@ -5,12 +5,12 @@ ghost use Rattle.fh_script.specs.Answers.{printed};
 ghost use Rattle.fh_script.specs.Session.{Records, StopsFor};
 ghost use Rattle.std.specs.Str.{is_utf8};
 
+use crate::End;
 use crate::answers::Answer;
 use crate::entries::{put_entry, queue_entry};
 use crate::lines::line_text;
 use crate::names::QueueNames;
 use crate::words::{is_text_word, words_of};
-use crate::End;
 use fh_base::QueueName;
 use fh_disk::Disk;
 use fh_journal::Journal;
@@ -157,7 +157,14 @@ impl<'d, J: Disk> Session<'d, J> {
         self.answer_put_words(alloc, queue, delay, ttl, text)
     }
 
-    fn answer_put_words(&mut self, alloc: Global, queue: &str, delay: &str, ttl: &str, text: &str) -> Result<String, End>
+    fn answer_put_words(
+        &mut self,
+        alloc: Global,
+        queue: &str,
+        delay: &str,
+        ttl: &str,
+        text: &str,
+    ) -> Result<String, End>
         requires within { self.old.journal.gate ≤ 1073741824 }
         ensures text { IfOk result (λ answer. string_bytes answer ≡ printed (put_words (world self.old.queues.names self.old.messages self.old.journal.gate) queue.now delay.now ttl.now text.now).answer) }
         ensures records { OnOk result (Records (world self.old.queues.names self.old.messages self.old.journal.gate)

@@ -111,7 +111,10 @@ fn lines_and_their_answers(rt: HostRuntime) -> Result<(), Fail> {
 #[test]
 fn a_text_of_65536_bytes_is_taken_and_one_more_is_refused(rt: HostRuntime) -> Result<(), Fail> {
     let alloc = rt.alloc();
-    let cases = [(65_536, "ok\nok 1 1\n"), (65_537, "ok\nno 3 TooLarge 65537 65536\n")];
+    let cases = [
+        (65_536, "ok\nok 1 1\n"),
+        (65_537, "ok\nno 3 TooLarge 65537 65536\n"),
+    ];
     for (size, answers) in cases {
         let mut lines = b"queue orders\nput orders 0 -1 ".to_vec(alloc)?;
         lines.extend_from_slice(&vec![in alloc; b'x'; size]?)?;
@@ -184,7 +187,12 @@ fn statuses_and_their_last_lines(rt: HostRuntime) -> Result<(), Fail> {
     }
     let mut none = MemoryDisk::plain(Vec::new(alloc), failing_after(0));
     let mut other = MemoryDisk::plain(Vec::new(alloc), failing_after(0));
-    for line in ["script journal", "script journal checkpoint more", "serve a b", ""] {
+    for line in [
+        "script journal",
+        "script journal checkpoint more",
+        "serve a b",
+        "",
+    ] {
         let words = words_of(&rt, line)?;
         let mut source = MemorySource::new(Vec::new(alloc), failing_after(0));
         let mut sink = MemorySink::new(alloc, failing_after(99));

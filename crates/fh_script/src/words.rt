@@ -8,7 +8,9 @@ use std::alloc::{AllocError, Global};
 pub fn words_of<'a>(alloc: Global, text: &'a str) -> Result<Vec<&'a str>, AllocError>
     ensures { IfOk result (λ found. map (λ word. word.now) found.items ≡ words text.entry.now) }
 {
-    text.split(' ').filter(|word| !word.is_empty()).collect(alloc)
+    text.split(' ')
+        .filter(|word| !word.is_empty())
+        .collect(alloc)
 }
 
 /// Whether a word stands for a text or a name: printable ASCII without a percent sign.

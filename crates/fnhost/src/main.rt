@@ -8,9 +8,8 @@ use fh_base::{Status, StreamSink, StreamSource};
 use fh_disk::FileDisk;
 use fh_script::script;
 use std::alloc::{AllocError, Global};
-use std::env;
-use std::io;
 use std::process::ExitCode;
+use std::{env, io};
 
 fn main(rt: HostRuntime) -> ExitCode {
     ExitCode::from(run(&rt).code)

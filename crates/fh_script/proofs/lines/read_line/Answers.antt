@@ -16,23 +16,23 @@ some_bytes tested is none counted = grind (arith, nat_tests)
 
 pub returns-in_default-clause-found : goal.returns-in_default-clause-found
 returns-in_default-clause-found g c =
-  reads_last _ _ _ c.loop-byte.line.items c.loop-byte.invariant.plain (some_bytes _ c.is_empty.ensures c.if-is_empty.false (search rules)) c.loop-byte.invariant.read (rw c.in_default.is at c.in-Ok.ensures.byte)
+    reads_last _ _ _ c.loop-byte.line.items c.loop-byte.invariant.plain (some_bytes _ c.is_empty.ensures c.if-is_empty.false (search rules)) c.loop-byte.invariant.read (rw c.in_default.is at c.in-Ok.ensures.byte)
 
 pub returns-in_default-clause-short : goal.returns-in_default-clause-short
 returns-in_default-clause-short g c = omega (arith, line_length-le c.loop-byte.line.items, c.loop-byte.invariant.short)
 
 pub returns-then-byte-eq-LINE_FEED-clause-found : goal.returns-then-byte-eq-LINE_FEED-clause-found
 returns-then-byte-eq-LINE_FEED-clause-found g c =
-  rw (ended_by _ _ _ c.in_ok-push.ensures.items c.if-byte-eq-LINE_FEED.true)
+    rw (ended_by _ _ _ c.in_ok-push.ensures.items c.if-byte-eq-LINE_FEED.true)
     (reads_ended _ _ _ c.loop-byte.line.items c.loop-byte.invariant.plain c.loop-byte.invariant.read
-      (feed_read _ _ _ c.if-byte-eq-LINE_FEED.true (rw c.in-Some.is at c.in-Ok.ensures.byte)))
+    (feed_read _ _ _ c.if-byte-eq-LINE_FEED.true (rw c.in-Some.is at c.in-Ok.ensures.byte)))
 
 pub returns-then-byte-eq-LINE_FEED-clause-short : goal.returns-then-byte-eq-LINE_FEED-clause-short
 returns-then-byte-eq-LINE_FEED-clause-short g c =
-  rw (ended_by _ _ _ c.in_ok-push.ensures.items c.if-byte-eq-LINE_FEED.true, line_length-ended c.loop-byte.line.items c.loop-byte.invariant.plain)
+    rw (ended_by _ _ _ c.in_ok-push.ensures.items c.if-byte-eq-LINE_FEED.true, line_length-ended c.loop-byte.line.items c.loop-byte.invariant.plain)
     c.loop-byte.invariant.short
 
 pub returns-then-len-gt-MOST-clause-reason : goal.returns-then-len-gt-MOST-clause-reason
 returns-then-len-gt-MOST-clause-reason g c =
-  starts_longer _ _ _ c.loop-byte.line.items _ _ c.loop-byte.invariant.plain c.if-byte-eq-LINE_FEED.false c.in_ok-push.ensures.items
+    starts_longer _ _ _ c.loop-byte.line.items _ _ c.loop-byte.invariant.plain c.if-byte-eq-LINE_FEED.false c.in_ok-push.ensures.items
     c.loop-byte.invariant.read (rw c.in-Some.is at c.in-Ok.ensures.byte) (search rules)

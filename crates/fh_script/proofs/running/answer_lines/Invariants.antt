@@ -6,7 +6,7 @@ use Rattle.fh_script.proofs.running.answer_lines.Given as goal
 abbrev pub invariant-loop-line : goal.invariant-loop-line
 invariant-loop-line g l = record {
   running :
-    IsRunning (g.S.Source.left l.initial.source) (g.S.Source.left l.source) (g.O.Sink.written l.initial.sink) (g.O.Sink.written l.sink)
+      IsRunning (g.S.Source.left l.initial.source) (g.S.Source.left l.source) (g.O.Sink.written l.initial.sink) (g.O.Sink.written l.sink)
       (g.J.Disk.told l.session.journal.disk.now) (world l.session.queues.names l.session.messages l.session.journal.gate);
   within : l.session.journal.gate ≤ 1073741824;
   reads : g.S.Source.read_faults l.initial.source ≤ g.S.Source.read_faults l.source;

@@ -8,7 +8,7 @@ use Rattle.fh_script.specs.Ends.{last_line}
 use Rattle.fh_script.proofs.running.conclude.Goals as goal
 
 concludes : (was now : Option (List ℕ)) (line : List ℕ) (before after : ℕ) (result : Result (Unit {0}) Failed) → WritesAll was now result line
-  → HasCause before after result → Concludes was now line before after
+    → HasCause before after result → Concludes was now line before after
 concludes was now line before after (Ok done) writes cause = record {
   written = length line;
   part = rw (take_all (length line) line (omega arith)) writes;
@@ -22,7 +22,7 @@ concludes was now line before after (Err failed) writes cause = record {
 
 pub returns-clause-written : goal.returns-clause-written
 returns-clause-written g c =
-  subst (λ (line : List ℕ). Concludes (g.O.Sink.written c.args.sink.now) (g.O.Sink.written c.write_all-written.new.sink) line
-      (g.O.Sink.write_faults c.args.sink.now) (g.O.Sink.write_faults c.write_all-written.new.sink))
+    subst (λ (line : List ℕ). Concludes (g.O.Sink.written c.args.sink.now) (g.O.Sink.written c.write_all-written.new.sink) line
+    (g.O.Sink.write_faults c.args.sink.now) (g.O.Sink.write_faults c.write_all-written.new.sink))
     (c.as_bytes.ensures.value ∙ c.last_line.ensures)
     (concludes _ _ _ _ _ c.write_all-written.result c.write_all-written.ensures.written c.write_all-written.ensures.cause)

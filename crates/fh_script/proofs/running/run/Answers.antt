@@ -8,6 +8,6 @@ returns-in-Err-DiskFault-clause-reason g c = mount_stops _ _ refl (rw c.in-Err-D
 
 pub returns-clause-reason : goal.returns-clause-reason
 returns-clause-reason g c =
-  from_disk g.J.Disk.told g.J.Disk.disk_faults _ c.answer_lines-end.new.session.journal.disk.now (search rules) _ _ _ _ _ _
+    from_disk g.J.Disk.told g.J.Disk.disk_faults _ c.answer_lines-end.new.session.journal.disk.now (search rules) _ _ _ _ _ _
     (from_start _ _ _ c.answer_lines-end.result refl refl refl refl (search rules) c.in-Ok.ensures.ends.0 c.answer_lines-end.ensures.asked c.answer_lines-end.ensures.whole
-      c.answer_lines-end.ensures.reason)
+    c.answer_lines-end.ensures.reason)

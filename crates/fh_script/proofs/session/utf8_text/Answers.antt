@@ -12,7 +12,7 @@ returns-in-Ok c = (is_utf8-from_IsUtf8 _ c.in-Ok.ensures.cases.1, c.in-Ok.ensure
 
 pub returns-in-Err : goal.returns-in-Err
 returns-in-Err c =
-  elim (true_or_false (is_utf8 c.args.bytes.now)) [
-    | inl is_text ↦ absurd (c.in-Err.ensures.cases.0 (IsUtf8-from_is_utf8 _ is_text))
-    | inr not_text ↦ not_text
-  ]
+    elim (true_or_false (is_utf8 c.args.bytes.now)) [
+      | inl is_text ↦ absurd (c.in-Err.ensures.cases.0 (IsUtf8-from_is_utf8 _ is_text))
+      | inr not_text ↦ not_text
+    ]
