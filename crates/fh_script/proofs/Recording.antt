@@ -1,5 +1,5 @@
 -- What a recorded command leaves, and which lines have another count of words.
-use Rattle.std.proofs.Common.{◌≡◌, ℕ, ◌+◌, ◌≤◌, ◌<◌, Bool, true, false, List, [], ◌∷◌, ◌++◌, length, map, get_or, Option, Bor, refl, sym, ◌∙◌, ap, subst, arith, nat_lt, nat_le, append-nil}
+use Rattle.std.proofs.Common.{◌≡◌, ℕ, ◌+◌, ◌≤◌, ◌<◌, true, false, List, [], ◌∷◌, ◌++◌, length, map, get_or, Option, Bor, refl, sym, ap, arith, nat_lt, nat_le, append-nil}
 use Rattle.std.proofs.lemmas.Bool.Decides.{nat_tests}
 use Rattle.fh_base.specs.Names.{is_queue_name}
 use Rattle.fh_journal.specs.Journal.{StandsFor}

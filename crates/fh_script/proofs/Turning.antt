@@ -1,6 +1,6 @@
 -- How one line goes on from the lines before it, and how a run ends behind them.
-use Rattle.std.proofs.Common.{◌≡◌, ℕ, ◌+◌, ◌<◌, ◌≤◌, Bool, true, false, ◌&&◌, List, [], ◌∷◌, ◌++◌, length, take, Option, Some, None, IfSome, refl, sym, ◌∙◌, ap, subst, arith, append_assoc, append-nil, if◌then◌else◌}
-use Rattle.std.specs.List.{list_all, fold}
+use Rattle.std.proofs.Common.{◌≡◌, ℕ, ◌+◌, ◌<◌, ◌≤◌, Bool, true, false, ◌&&◌, List, [], ◌∷◌, ◌++◌, length, take, Option, Some, None, IfSome, refl, sym, ◌∙◌, ap, subst, arith, append_assoc, append-nil}
+use Rattle.std.specs.List.{list_all}
 use Rattle.std.proofs.lemmas.List.Folds.{list_all-append}
 use Rattle.std.proofs.lemmas.List.Sums.{fold-append}
 use Rattle.std.proofs.lemmas.Bool.{le-leb}
@@ -10,7 +10,7 @@ use Rattle.fh_base.proofs.Appending.{appends-append}
 use Rattle.fh_journal.specs.Journal.{StandsFor}
 use Rattle.fh_script.specs.Lines.{is_line_feed, before_lines, lines, line_length, ReadsLine, StartsLong, HasLineReason}
 use Rattle.fh_script.specs.Answers.{printed}
-use Rattle.fh_script.specs.Machine.{World, State, answer_line, after_line, opening, run}
+use Rattle.fh_script.specs.Machine.{World, answer_line, after_line, opening, run}
 use Rattle.fh_script.specs.Session.{Records, StopsFor}
 use Rattle.fh_script.specs.Script.{Outside, HasLines, is_short_line, Wrote, Answered, CutOff, IsLongNext, HasReason}
 use Rattle.fh_script.specs.declared.ends.End.{End}

@@ -1,5 +1,5 @@
 -- What a whole run of the script comes to.
-use Rattle.std.specs.Prelude.{◌≡◌, ◌≤◌, ◌<◌, ⊤, ℕ, nat_le, Bool, true, false, List, [], ◌∷◌, ◌++◌, length, take, codes, fold, Option, Some, None, IfSome, string_bytes}
+use Rattle.std.specs.Prelude.{◌≡◌, ◌≤◌, ◌<◌, ⊤, ℕ, nat_le, Bool, true, false, List, [], ◌∷◌, ◌++◌, length, take, codes, Option, Some, None, IfSome, string_bytes}
 use Rattle.std.specs.List.{list_all}
 use Rattle.std.specs.Str.{bytes_eq}
 use Rattle.std.specs.Io.KnownBytes.{Appends, IsAtEnd}
@@ -9,7 +9,7 @@ use Rattle.fh_base.specs.Faults.{Rose}
 use Rattle.fh_journal.specs.Journal.{StandsFor}
 use Rattle.fh_script.specs.Lines.{lines, line_length}
 use Rattle.fh_script.specs.Answers.{printed}
-use Rattle.fh_script.specs.Machine.{World, State, answer_line, run}
+use Rattle.fh_script.specs.Machine.{answer_line, run}
 use Rattle.fh_script.specs.Ends.{code_of, last_line}
 use Rattle.fh_script.specs.declared.ends.End.{End}
 use Rattle.fh_script.specs.declared.ends.End.TheVariants.{Finished, Usage, Damaged, ReadFault, DiskFault, WriteFault, LongLine, NoMemory}

@@ -1,4 +1,11 @@
-//! The script: a line is read, answered over the journal, and its answer is written.
+//! The script: lines are read, answered over the journal, and their answers written.
+//!
+//! Promised to the layer above: `script` is the whole command. Each line comes to what `answer_line` of
+//! specs/Machine.antt says: its answer, its entry or none, and the world behind it. The answers stand
+//! in the sink in the order of the lines, each written after its entry is on the disk and before the next
+//! line is read, and the journal stands for the entries. A run ends at the end of the source with
+//! status 0, or at its first fault, and each status comes only for its reason (`EndsBy` of
+//! specs/Script.antt). After a disk fault nothing is said of the file yet. The checkpoint is left alone.
 #![tactic(auto)]
 
 mod answers;

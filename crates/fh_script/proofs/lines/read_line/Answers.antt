@@ -1,7 +1,6 @@
-use Rattle.std.proofs.Common.{◌≡◌, ◌≤◌, ◌<◌, ◌++◌, List, ℕ, ◌==◌, Bool, false, [], ◌∷◌, Option, Some, true, rules, arith, sym, ap, ◌∙◌, subst, length, length-append}
+use Rattle.std.proofs.Common.{◌≡◌, ◌<◌, ◌++◌, List, ℕ, ◌==◌, Bool, false, [], ◌∷◌, Option, rules, arith, ap, ◌∙◌, subst}
 use Rattle.std.proofs.lemmas.Bool.Decides.{nat_tests}
 use Rattle.std.specs.Io.KnownBytes.{Consumes}
-use Rattle.fh_script.specs.Lines.{ReadsLine, line_length}
 use Rattle.fh_script.proofs.LineReading.{reads_ended, reads_last, starts_longer, line_length-ended, line_length-le}
 use Rattle.fh_script.proofs.lines.read_line.Goals as goal
 

@@ -1,7 +1,4 @@
-use Rattle.std.proofs.Common.{◌≡◌, ◌∙◌, refl, sym, ap, subst, arith, List, ℕ, true, false}
-use Rattle.fh_script.specs.Lines.{ReadsLine}
-use Rattle.fh_script.specs.Answers.{printed}
-use Rattle.fh_script.specs.Machine.{Done, answer_line}
+use Rattle.std.proofs.Common.{◌∙◌, refl, arith}
 use Rattle.fh_script.proofs.Turning.{one_more, finished, line_stops, answer_stops, write_stops}
 use Rattle.fh_script.proofs.running.answer_lines.Goals as goal
 

@@ -1,10 +1,8 @@
-use Rattle.std.proofs.Common.{◌≡◌, ℕ, ◌<◌, ◌≤◌, List, length, take, Option, Result, Ok, Err, refl, arith, sym, ◌∙◌, subst, take_all}
-use Rattle.std.specs.Io.KnownBytes.{Appends}
+use Rattle.std.proofs.Common.{ℕ, List, length, Option, Result, Ok, Err, refl, arith, ◌∙◌, subst, take_all}
 use Rattle.fh_base.specs.declared.faults.Failed.{Failed}
-use Rattle.fh_base.specs.Faults.{Rose, HasCause}
+use Rattle.fh_base.specs.Faults.{HasCause}
 use Rattle.fh_base.specs.Streams.{WritesAll}
 use Rattle.fh_script.specs.Concluding.{Concludes}
-use Rattle.fh_script.specs.Ends.{last_line}
 use Rattle.fh_script.proofs.running.conclude.Goals as goal
 
 concludes : (was now : Option (List ℕ)) (line : List ℕ) (before after : ℕ) (result : Result (Unit {0}) Failed) → WritesAll was now result line

@@ -1,5 +1,4 @@
-use Rattle.std.proofs.Common.{◌≡◌, ◌≤◌, refl, rules, arith, sym, ap, ◌∙◌}
-use Rattle.fh_script.specs.Script.{HasReason}
+use Rattle.std.proofs.Common.{refl, rules}
 use Rattle.fh_script.proofs.Turning.{mount_stops, from_start, from_disk}
 use Rattle.fh_script.proofs.running.run.Goals as goal
 

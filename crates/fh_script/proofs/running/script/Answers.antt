@@ -1,5 +1,5 @@
-use Rattle.std.proofs.Common.{◌≡◌, ◌≤◌, refl, arith}
-use Rattle.fh_script.specs.Script.{Outside, EndsBy}
+use Rattle.std.proofs.Common.{refl, arith}
+use Rattle.fh_script.specs.Script.{Outside}
 use Rattle.fh_script.proofs.Turning.{appends-nothing}
 use Rattle.fh_script.specs.declared.ends.End.TheVariants.{Usage}
 use Rattle.fh_script.proofs.LastLines.{ends_by}

@@ -1,5 +1,5 @@
-use Rattle.std.proofs.Common.{◌≡◌, arith, sym, ◌∙◌, ap, rules}
-use Rattle.fh_script.specs.Machine.{queue_entry, has_queue, world}
+use Rattle.std.proofs.Common.{sym, ◌∙◌, ap, rules}
+use Rattle.fh_script.specs.Machine.{queue_entry, has_queue}
 use Rattle.fh_script.proofs.Recording.{made_queue}
 use Rattle.fh_script.proofs.session.Session.make_queue.Goals as goal
 

@@ -1,5 +1,5 @@
-use Rattle.std.proofs.Common.{◌≡◌, ◌≤◌, ◌<◌, true, length, arith, sym, ◌∙◌, ap, rules}
-use Rattle.fh_script.specs.Machine.{put_entry, has_queue, world}
+use Rattle.std.proofs.Common.{sym, ◌∙◌, ap, rules}
+use Rattle.fh_script.specs.Machine.{has_queue}
 use Rattle.fh_script.proofs.Recording.{put_message}
 use Rattle.fh_script.proofs.session.Session.put.Goals as goal
 
