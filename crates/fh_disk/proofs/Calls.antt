@@ -104,7 +104,7 @@ pub images_stay_torn : (r : Option Recorded) (at n : ℕ) → Follows (Torn at n
 images_stay_torn r at n c left = (c, left, torn_same at n c)
 
 pub told_stays_torn : (r : Option Recorded) (at n : ℕ) → TornTold at n (told_by r) (told_by r)
-told_stays_torn None at n = tt
+told_stays_torn None at n = refl
 told_stays_torn (Some r) at n = torn_same at n (replayed r.first r.calls)
 
 -- a sync

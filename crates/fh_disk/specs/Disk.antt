@@ -19,9 +19,9 @@ pub record Torn (at n : ℕ) (old new : List ℕ) : Type 0 where
   pub no_shorter : length old ≤ length new
   pub no_longer : length new ≤ max (length old) (at + n)
 
--- what is told stays told, and is torn
+-- what is told stays told, and is torn; what isn't told stays so
 abbrev pub TornTold : ℕ → ℕ → Option (List ℕ) → Option (List ℕ) → Type 0
-TornTold at n None new = ⊤
+TornTold at n None new = new ≡ None
 TornTold at n (Some old) None = ⊥
 TornTold at n (Some old) (Some new) = Torn at n old new
 

@@ -1,2 +1,5 @@
+pub mod Bytes
 pub mod Filling
-pub mod Frames
+pub mod Kept
+pub mod Moments
+pub mod Torn

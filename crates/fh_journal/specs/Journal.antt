@@ -1,6 +1,6 @@
 -- What the bytes of a journal stand for.
-use Rattle.std.specs.Prelude.{◌≡◌, ◌≢◌, ℕ, List, [], ◌∷◌, ◌++◌, length, Option, IfSome}
-use Rattle.std.specs.List.{flat_map}
+use Rattle.std.specs.Prelude.{◌≡◌, ◌≢◌, ◌⊎◌, ◌≤◌, ℕ, Bool, true, false, List, [], ◌∷◌, ◌++◌, length}
+use Rattle.std.specs.List.{flat_map, All}
 use Rattle.std.specs.Int.{w32, to_be_bytes}
 
 -- the letters FNHJ, and version 1 in two bytes
@@ -15,14 +15,39 @@ frame payload = 1 ∷ to_be_bytes w32 (length payload) ++ payload
 abbrev pub opened : List (List ℕ) → List ℕ
 opened payloads = header ++ flat_map frame payloads
 
--- the file has an open frame for each payload, and then a gate that is closed; bytes behind it mean nothing
+-- a payload that may stand in a frame
+abbrev pub IsShort : List ℕ → Type 0
+IsShort payload = length payload ≤ 16777216
+
+-- The file has an open frame for each payload, and then a gate that is closed. Bytes behind it mean nothing.
 pub record Stands (file : List ℕ) (payloads : List (List ℕ)) (gate : ℕ) : Type 0 where
   pub closed : ℕ
   pub rest : List ℕ
   pub shut : closed ≢ 1
   pub place : gate ≡ length (opened payloads)
   pub whole : file ≡ opened payloads ++ closed ∷ rest
+  pub short : All IsShort payloads
 
--- the same of a file that is told
-abbrev pub StandsFor : Option (List ℕ) → List (List ℕ) → ℕ → Type 0
-StandsFor told payloads gate = IfSome told (λ file. Stands file payloads gate)
+-- Behind the open frames one more stands whole, with a closed gate behind it. Its own gate may be open or not.
+pub record InDoubt (file : List ℕ) (payloads : List (List ℕ)) (failed : List ℕ) (gate : ℕ) : Type 0 where
+  pub either : ℕ
+  pub closed : ℕ
+  pub rest : List ℕ
+  pub shut : closed ≢ 1
+  pub place : gate ≡ length (opened payloads)
+  pub whole : file ≡ opened payloads ++ either ∷ (to_be_bytes w32 (length failed) ++ failed ++ closed ∷ rest)
+  pub short : All IsShort payloads
+  pub failed_short : IsShort failed
+
+-- A file of at most 7 bytes is a journal of no frames whatever its bytes: a crash while it is made can leave any.
+abbrev pub IsJournalOf : List ℕ → List (List ℕ) → Type 0
+IsJournalOf file payloads = ((length file ≤ 7) × (payloads ≡ [])) ⊎ ((gate : ℕ) × Stands file payloads gate)
+
+-- the file of a journal that is torn by a failed payload, or isn't
+abbrev pub IsOf : Bool → List (List ℕ) → List ℕ → ℕ → List ℕ → Type 0
+IsOf false payloads failed gate file = Stands file payloads gate
+IsOf true payloads failed gate file = InDoubt file payloads failed gate
+
+-- what it may be read as: the payloads, and where it is torn also the failed one behind them
+abbrev pub MayReadAs : Bool → List (List ℕ) → List ℕ → List ℕ → Type 0
+MayReadAs torn payloads failed file = IsJournalOf file payloads ⊎ ((torn ≡ true) × IsJournalOf file (payloads ++ failed ∷ []))

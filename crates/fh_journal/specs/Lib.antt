@@ -1,3 +1,5 @@
+pub mod Frames
 pub mod Journal
+pub mod Keeping
 pub mod Mounting
 pub mod Reading

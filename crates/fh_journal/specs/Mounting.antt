@@ -1,27 +1,64 @@
--- How mounting a journal ends.
-use Rattle.std.specs.Prelude.{◌≡◌, ◌≤◌, ◌<◌, ℕ, List, [], ◌∷◌, ◌++◌, length, Option, Some, None, refl, IfSome, Result, Ok, Err}
-use Rattle.std.proofs.Common.{arith}
-use Rattle.fh_base.specs.Faults.{Rose}
-use Rattle.fh_journal.specs.Journal.{header, StandsFor}
+-- How mounting a journal ends, and which frames can't be read.
+use Rattle.std.specs.Prelude.{◌≡◌, ◌≢◌, ◌⊎◌, ◌≤◌, ◌<◌, ℕ, ◌+◌, nat_le, if◌then◌else◌, List, [], ◌∷◌, ◌++◌, length, take, Option, Some, None, IfSome, Result, Ok, Err}
+use Rattle.std.specs.List.{All}
+use Rattle.std.specs.Int.{w32, from_be_bytes}
+use Rattle.std.specs.Option.{option_map}
+use Rattle.fh_journal.specs.Journal.{header, opened, IsShort}
+use Rattle.fh_journal.specs.declared.faults.FrameRule.{FrameRule}
+use Rattle.fh_journal.specs.declared.faults.FrameRule.TheVariants.{Cut, Length}
 use Rattle.fh_journal.specs.declared.faults.MountFault.{MountFault}
-use Rattle.fh_journal.specs.declared.faults.MountFault.TheVariants.{Later, DiskFault}
+use Rattle.fh_journal.specs.declared.faults.MountFault.TheVariants.{BadHeader, BadFrame, DiskFault, NoMemory}
+use Rattle.fh_journal.specs.declared.mounting.Prepared.{Prepared}
 
 -- the header and a closed gate
 abbrev pub fresh_file : List ℕ
 fresh_file = header ++ 0 ∷ []
 
--- A file of at most 7 bytes is a journal of no frames, whatever its bytes, and is made anew. A longer one is refused
--- and left as it is. The disk fails only where its count of faults rose.
-abbrev pub Prepares : Option (List ℕ) → Option (List ℕ) → ℕ → ℕ → Result ℕ MountFault → Type 0
-Prepares was now before after (Ok gate) = IfSome was (λ file. length file ≤ 7) × IfSome now (λ file. file ≡ fresh_file)
-Prepares was now before after (Err Later) = IfSome was (λ file. 7 < length file) × (now ≡ was)
-Prepares was now before after (Err DiskFault) = Rose before after
+-- what a mount that succeeds leaves: a file of at most 7 bytes is made anew, and a longer one stays
+abbrev pub mounted_file : List ℕ → List ℕ
+mounted_file file = if nat_le (length file) 7 then fresh_file else file
 
--- a journal of no frames
-pub stands_fresh : (told : Option (List ℕ)) → IfSome told (λ file. file ≡ fresh_file) → StandsFor told [] 6
-stands_fresh None fresh = tt
-stands_fresh (Some file) fresh = record { closed = 0; rest = []; shut = λ none. omega (arith, none); place = refl; whole = fresh }
+-- the number in the first four bytes
+abbrev pub length_field : List ℕ → ℕ
+length_field bytes = from_be_bytes w32 (take 4 bytes)
 
-pub short_fresh : (told : Option (List ℕ)) → IfSome told (λ file. file ≡ fresh_file) → IfSome told (λ file. length file ≤ 7)
-short_fresh None fresh = tt
-short_fresh (Some file) fresh = rw fresh (omega arith)
+-- What stands behind an open gate breaks the rule: its length is too great, or the file ends in the length, in the
+-- payload, or before the gate that must follow.
+abbrev pub Breaks : FrameRule → List ℕ → Type 0
+Breaks (Length given) bytes = (4 ≤ length bytes) × (given ≡ length_field bytes) × (16777216 < given)
+Breaks Cut bytes = (length bytes < 4) ⊎ ((length_field bytes ≤ 16777216) × (length bytes ≤ 4 + length_field bytes))
+
+-- whole frames come first, and the open gate at this place is that of the first one that breaks a rule
+pub record BreaksAt (file : List ℕ) (at : ℕ) (rule : FrameRule) : Type 0 where
+  pub payloads : List (List ℕ)
+  pub behind : List ℕ
+  pub short : All IsShort payloads
+  pub place : at ≡ length (opened payloads)
+  pub whole : file ≡ opened payloads ++ 1 ∷ behind
+  pub breaks : Breaks rule behind
+
+-- a file of more than 7 bytes that doesn't begin with the header
+abbrev pub IsForeign : List ℕ → Type 0
+IsForeign file = (7 < length file) × (take 6 file ≢ header)
+
+-- what any mount leaves: at most 7 bytes of a file that had no more, and a longer one as it was
+abbrev pub IsLeft : List ℕ → List ℕ → Type 0
+IsLeft was now = (now ≡ was) ⊎ ((length was ≤ 7) × (length now ≤ 7))
+
+-- What a mount leaves of the bytes, and why it refuses a file. A file that is refused stays.
+abbrev pub Mounts : List ℕ → List ℕ → Result Prepared MountFault → Type 0
+Mounts was now (Ok made) = now ≡ mounted_file was
+Mounts was now (Err BadHeader) = (now ≡ was) × IsForeign was
+Mounts was now (Err (BadFrame at rule)) = (now ≡ was) × BreaksAt was at rule
+Mounts was now (Err DiskFault) = IsLeft was now
+Mounts was now (Err NoMemory) = IsLeft was now
+
+-- the same where the bytes are told, which they stay
+abbrev pub MountsTold : Option (List ℕ) → Option (List ℕ) → Result Prepared MountFault → Type 0
+MountsTold None now result = now ≡ None
+MountsTold (Some was) None result = ⊥
+MountsTold (Some was) (Some now) result = Mounts was now result
+
+-- a file of at most 7 bytes may be left with any such bytes by a crash
+abbrev pub IsBeingMade : List ℕ → List ℕ → Type 0
+IsBeingMade was file = (length was ≤ 7) × (length file ≤ 7)

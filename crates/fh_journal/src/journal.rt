@@ -1,72 +1,186 @@
-// A journal over a disk that is lent, and how a payload is added.
-ghost use Rattle.std.specs.Prelude.{◌≡◌, ◌+◌, ◌≤◌, ◌∷◌, ◌++◌, [], ℕ, List, length, IfOk, OnOk, IsErrOf};
+// A journal over a disk that is lent: how payloads are added, and how a torn one is mended.
+ghost use Rattle.std.specs.Prelude.{◌≡◌, ◌⊎◌, ◌+◌, ◌≤◌, ◌<◌, [], ◌∷◌, ◌++◌, ℕ, List, Some, None, true, false, length, nat_lt, if◌then◌else◌, vec_capacity, IfOk, OnOk, OnErr, IfSome};
 ghost use Rattle.std.specs.Int.{w32, to_be_bytes};
 ghost use Rattle.fh_base.specs.Faults.{Rose};
-ghost use Rattle.fh_journal.specs.Journal.{StandsFor};
+ghost use Rattle.fh_disk.specs.Disk.{OnlyTold};
+ghost use Rattle.fh_disk.specs.Moments.{LeavesOnly};
+ghost use Rattle.fh_journal.specs.Journal.{MayReadAs};
+ghost use Rattle.fh_journal.specs.Keeping.{Keeps, IsBeforeOrAfter, StaysTold};
 
 use crate::AppendFault;
+use crate::writing::write_durably;
+use fh_base::NoMemory;
 use fh_disk::Disk;
-use std::alloc::{AllocError, Global};
+use std::alloc::Global;
 
 /// The value of a gate in front of a whole frame.
-const OPEN: u8 = 1;
+pub(crate) const OPEN: u8 = 1;
 
 /// The value that is written at a gate with no frame behind it.
-const CLOSED: u8 = 0;
+pub(crate) const CLOSED: u8 = 0;
 
-/// A journal over a disk that is lent. It may be dropped at any time.
+/// The most bytes that a payload may have.
+pub(crate) const LONGEST: u64 = 16_777_216;
+
+/// The most bytes that a journal may have.
+const GREATEST: u64 = 1_073_741_824;
+
+/// What a frame has beside its payload, and the gate that follows it: two gates and the length.
+const AROUND: u64 = 6;
+
+/// A journal over a disk that is lent. It may be dropped at any time; `close` gives the disk back.
 #[derive(Drop)]
 pub struct Journal<'d, J: Disk> {
     pub disk: &'d mut J,
     /// The place of the gate behind the last frame, in bytes.
     pub gate: u64,
+    /// A frame that wasn't acknowledged may stand open at the gate.
+    pub torn: bool,
+    /// Where frames are put together. Its capacity is what was reserved.
+    pub buffer: Vec<u8>,
 }
 
 impl<'d, J: Disk> Journal<'d, J> {
     /// The journal of a disk that was prepared. Takes no memory.
-    pub fn over(disk: &'d mut J, gate: u64) -> Journal<'d, J>
+    pub fn over(alloc: Global, disk: &'d mut J, gate: u64) -> Journal<'d, J>
         ensures same { result.disk.ghost_name ≡ disk.entry.ghost_name }
         ensures disk { result.disk.now ≡ disk.entry.now }
         ensures gate { result.gate ≡ gate }
+        ensures whole { result.torn ≡ false }
     {
-        Journal { disk, gate }
+        Journal {
+            disk,
+            gate,
+            torn: false,
+            buffer: Vec::new(alloc),
+        }
     }
 
-    /// Adds a payload of 1 to 16,777,216 bytes behind the others and says where its gate is, by four device
-    /// calls: what stands behind the gate is on the disk before the gate is opened. After a `DiskFault`
-    /// nothing is said of the file.
-    pub fn append(&mut self, alloc: Global, payload: &[u8]) -> Result<u64, AppendFault>
+    /// Gives the disk back.
+    pub fn close(self) -> &'d mut J
+        ensures same { result.ghost_name ≡ self.entry.disk.ghost_name }
+        ensures disk { result.now ≡ self.entry.disk.now }
+    {
+        let journal = self;
+        let disk = journal.disk;
+        disk
+    }
+
+    /// Whether a frame that wasn't acknowledged may stand open at the gate.
+    pub fn torn(&self) -> bool
+        ensures { result ≡ self.now.torn }
+    {
+        self.torn
+    }
+
+    /// The place of the gate, where a payload of so many bytes would make the file too long. Takes no memory.
+    pub fn room(&self, payload: u64) -> Option<u64>
+        ensures { result ≡ (if nat_lt 1073741824 (self.now.gate + 6 + payload) then Some self.now.gate else None) }
+    {
+        let gate = self.gate;
+        let fits = payload <= GREATEST - AROUND && gate <= GREATEST - AROUND - payload;
+        if fits { None } else { Some(gate) }
+    }
+
+    /// Makes room for a payload of so many bytes, so that an append of it takes no memory.
+    pub fn reserve(&mut self, payload: usize) -> Result<(), NoMemory>
+        requires short { payload ≤ 16777216 }
+        ensures reserved { OnOk result (payload + 5 ≤ vec_capacity self.new.buffer) }
+        ensures kept { vec_capacity self.old.buffer ≤ vec_capacity self.new.buffer }
+        ensures disk { self.new.disk.now ≡ self.old.disk.now }
+        ensures gate { self.new.gate ≡ self.old.gate }
+        ensures torn { self.new.torn ≡ self.old.torn }
+        ensures same { self.new.disk.ghost_name ≡ self.old.disk.ghost_name }
+    {
+        self.buffer.clear();
+        Ok(self.buffer.reserve(payload + 5)?)
+    }
+
+    /// Adds a payload of 1 to 16,777,216 bytes behind the others and says where its gate is. A torn
+    /// journal is mended first. Then come four device calls: what stands behind the gate is on the disk
+    /// before the gate is opened. Where the third or fourth fails the journal is torn. Takes no memory.
+    pub fn append(&mut self, payload: &[u8]) -> Result<u64, AppendFault>
         requires filled { 1 ≤ length payload.now }
         requires short { length payload.now ≤ 16777216 }
         requires room { self.old.gate + 6 + length payload.now ≤ 1073741824 }
-        ensures added { OnOk result ((payloads : List (List ℕ)) → StandsFor (J.told self.old.disk.now) payloads self.old.gate
-            → StandsFor (J.told self.new.disk.now) (payloads ++ payload.now ∷ []) self.new.gate) }
+        requires reserved { length payload.now + 5 ≤ vec_capacity self.old.buffer }
+        ensures added { OnOk result ((payloads : List (List ℕ)) (failed : List ℕ)
+            → Keeps (J.told self.old.disk.now) (J.may_leave self.old.disk.now) self.old.torn payloads failed self.old.gate
+            → Keeps (J.told self.new.disk.now) (J.may_leave self.new.disk.now) false (payloads ++ payload.now ∷ []) [] self.new.gate) }
+        ensures durable { OnOk result (OnlyTold (J.told self.new.disk.now) (J.may_leave self.new.disk.now)) }
         ensures place { IfOk result (λ at. at ≡ self.old.gate) }
         ensures gate { OnOk result (self.new.gate ≡ self.old.gate + 5 + length payload.now) }
-        ensures fault { IsErrOf result AppendFault.DiskFault → Rose (J.disk_faults self.old.disk.now) (J.disk_faults self.new.disk.now) }
-        ensures memory { IsErrOf result AppendFault.NoMemory → (J.told self.new.disk.now ≡ J.told self.old.disk.now) × (self.new.gate ≡ self.old.gate) }
+        ensures whole { OnOk result (self.new.torn ≡ false) }
+        ensures fault { OnErr result (Rose (J.disk_faults self.old.disk.now) (J.disk_faults self.new.disk.now)) }
+        ensures same_gate { OnErr result (self.new.gate ≡ self.old.gate) }
+        ensures not_added { OnErr result ((payloads : List (List ℕ)) (failed : List ℕ)
+            → Keeps (J.told self.old.disk.now) (J.may_leave self.old.disk.now) self.old.torn payloads failed self.old.gate
+            → Keeps (J.told self.new.disk.now) (J.may_leave self.new.disk.now) self.new.torn payloads failed self.new.gate
+            ⊎ Keeps (J.told self.new.disk.now) (J.may_leave self.new.disk.now) self.new.torn payloads payload.now self.new.gate) }
+        ensures any_moment { (payloads : List (List ℕ)) (failed : List ℕ)
+            → Keeps (J.told self.old.disk.now) (J.may_leave self.old.disk.now) self.old.torn payloads failed self.old.gate
+            → IfSome (J.told self.old.disk.now) (λ _. LeavesOnly J.moment J.left_since self.old.disk.now self.new.disk.now
+                (IsBeforeOrAfter self.old.torn payloads failed payload.now)) }
+        ensures reserved { vec_capacity self.old.buffer ≤ vec_capacity self.new.buffer }
+        ensures told { StaysTold (J.told self.old.disk.now) (J.told self.new.disk.now) }
         ensures count { J.disk_faults self.old.disk.now ≤ J.disk_faults self.new.disk.now }
         ensures same { self.new.disk.ghost_name ≡ self.old.disk.ghost_name }
     {
-        let behind = behind_gate(alloc, payload)?;
+        self.mend()?;
         let at = self.gate;
-        self.disk.write_at(at + 1, &behind)?;
-        self.disk.sync()?;
-        self.disk.write_at(at, &[OPEN])?;
-        self.disk.sync()?;
-        self.gate = at + behind.len() as u64;
+        put_frame(&mut self.buffer, payload);
+        write_durably(self.disk, at + 1, &self.buffer)?;
+        self.torn = true;
+        write_durably(self.disk, at, &[OPEN])?;
+        self.torn = false;
+        self.gate = at + self.buffer.len() as u64;
         Ok(at)
+    }
+
+    /// Closes the gate of a torn journal, so that the frame behind it means nothing. It makes no call
+    /// where nothing is torn: a gate that is whole would be in doubt until the sync. Takes no memory.
+    pub fn mend(&mut self) -> Result<(), AppendFault>
+        ensures mended { OnOk result ((payloads : List (List ℕ)) (failed : List ℕ)
+            → Keeps (J.told self.old.disk.now) (J.may_leave self.old.disk.now) self.old.torn payloads failed self.old.gate
+            → Keeps (J.told self.new.disk.now) (J.may_leave self.new.disk.now) false payloads [] self.new.gate) }
+        ensures durable { self.old.torn ≡ true → OnOk result (OnlyTold (J.told self.new.disk.now) (J.may_leave self.new.disk.now)) }
+        ensures whole { OnOk result (self.new.torn ≡ false) }
+        ensures quiet { self.old.torn ≡ false → (self.new.disk.now ≡ self.old.disk.now) × (result ≡ Ok tt) }
+        ensures fault { OnErr result (Rose (J.disk_faults self.old.disk.now) (J.disk_faults self.new.disk.now)) }
+        ensures torn { OnErr result (self.new.torn ≡ self.old.torn) }
+        ensures kept { OnErr result ((payloads : List (List ℕ)) (failed : List ℕ)
+            → Keeps (J.told self.old.disk.now) (J.may_leave self.old.disk.now) self.old.torn payloads failed self.old.gate
+            → Keeps (J.told self.new.disk.now) (J.may_leave self.new.disk.now) self.new.torn payloads failed self.new.gate) }
+        ensures any_moment { (payloads : List (List ℕ)) (failed : List ℕ)
+            → Keeps (J.told self.old.disk.now) (J.may_leave self.old.disk.now) self.old.torn payloads failed self.old.gate
+            → IfSome (J.told self.old.disk.now) (λ _. LeavesOnly J.moment J.left_since self.old.disk.now self.new.disk.now
+                (MayReadAs self.old.torn payloads failed)) }
+        ensures gate { self.new.gate ≡ self.old.gate }
+        ensures reserved { vec_capacity self.new.buffer ≡ vec_capacity self.old.buffer }
+        ensures told { StaysTold (J.told self.old.disk.now) (J.told self.new.disk.now) }
+        ensures count { J.disk_faults self.old.disk.now ≤ J.disk_faults self.new.disk.now }
+        ensures same { self.new.disk.ghost_name ≡ self.old.disk.ghost_name }
+    {
+        if !self.torn {
+            return Ok(());
+        }
+        write_durably(self.disk, self.gate, &[CLOSED])?;
+        self.torn = false;
+        Ok(())
     }
 }
 
 // The rest of a frame behind its gate, and the next gate, which is closed.
-fn behind_gate(alloc: Global, payload: &[u8]) -> Result<Vec<u8>, AllocError>
-    requires { length payload.now ≤ 16777216 }
-    ensures { IfOk result (λ bytes. bytes.items ≡ to_be_bytes w32 (length payload.now) ++ payload.now ++ 0 ∷ []) }
+fn put_frame(buffer: &mut Vec<u8>, payload: &[u8])
+    requires short { length payload.now ≤ 16777216 }
+    requires reserved { length payload.now + 5 ≤ vec_capacity buffer.old }
+    ensures bytes { buffer.new.items ≡ to_be_bytes w32 (length payload.now) ++ payload.now ++ 0 ∷ [] }
+    ensures size { length buffer.new.items ≡ length payload.now + 5 }
+    ensures reserved { vec_capacity buffer.old ≤ vec_capacity buffer.new }
 {
-    let mut bytes = Vec::with_capacity(alloc, payload.len() + 5)?;
-    bytes.extend_from_slice(&(payload.len() as u32).to_be_bytes())?;
-    bytes.extend_from_slice(payload)?;
-    bytes.push(CLOSED)?;
-    Ok(bytes)
+    buffer.clear();
+    let size = (payload.len() as u32).to_be_bytes();
+    buffer.extend_from_slice(&size).unwrap();
+    buffer.extend_from_slice(payload).unwrap();
+    buffer.push_reserved(CLOSED);
 }

@@ -1,18 +1,27 @@
-//! The journal file: its frames, and how a payload is added.
+//! The journal file: its frames, how it is mounted, and how a payload is added.
 //!
-//! Promised to the layer above: a journal that was prepared stands for its payloads in order, and an
-//! append that answers Ok adds exactly one, for whatever payloads it stood before. A call fails only
-//! where the disk's count of faults rose in it, or where memory was refused before any device call.
+//! Promised to the layer above, where the disk tells: a journal that was prepared stands for the payloads
+//! of its frames, and each image of the disk does. An append that answers Ok adds exactly one, and one
+//! that fails none; at each moment of it a crash leaves the payloads from before, or those with the new
+//! one. Where its third or fourth call fails the journal is torn: both stay possible until a mend
+//! succeeds, and the next append mends first. A file is refused exactly where it is no journal, with
+//! the first frame that breaks a rule, and it is left as it is.
+//!
+//! A call fails only where the disk's count of faults rose in it, and `append` and `mend` take no memory.
 #![tactic(auto)]
 
 mod faults;
+mod frame_reading;
+mod frames;
 mod journal;
 mod mounting;
 mod reading;
+mod writing;
 
-pub use faults::{AppendFault, MountFault};
+pub use faults::{AppendFault, FrameRule, MountFault};
+pub use frames::{Frame, Frames, Payload};
 pub use journal::Journal;
-pub use mounting::prepare;
+pub use mounting::{Prepared, prepare};
 
 #[cfg(test)]
 mod tests;

@@ -1,46 +1,117 @@
 // How a file becomes a journal.
-ghost use Rattle.std.specs.Prelude.{◌≤◌, ◌≡◌, true, IfSome, IfOk, length};
-ghost use Rattle.fh_base.specs.Faults.{HasCause};
-ghost use Rattle.fh_journal.specs.Mounting.{Prepares, fresh_file};
+ghost use Rattle.std.specs.Prelude.{◌≡◌, ◌⊎◌, ◌≤◌, ◌<◌, [], true, false, ℕ, List, IfSome, IfOk, OnOk, length, IsErrOf};
+ghost use Rattle.std.specs.Option.{option_map};
+ghost use Rattle.fh_base.specs.Faults.{HasCause, Rose};
+ghost use Rattle.fh_disk.specs.Disk.{OnlyTold};
+ghost use Rattle.fh_disk.specs.Moments.{LeavesOnly};
+ghost use Rattle.fh_journal.specs.Frames.{payloads_of, frames_from};
+ghost use Rattle.fh_journal.specs.Journal.{IsJournalOf};
+ghost use Rattle.fh_journal.specs.Keeping.{Keeps, OnlyReads, StaysTold};
+ghost use Rattle.fh_journal.specs.Mounting.{IsBeingMade, MountsTold, fresh_file};
+ghost use Rattle.fh_journal.specs.Reading.{BeginsWithHeader};
 
-use crate::MountFault;
+use crate::frame_reading::read_frames;
+use crate::frames::Frames;
 use crate::reading::read_fully;
+use crate::writing::write_durably;
+use crate::MountFault;
 use fh_base::Failed;
 use fh_disk::Disk;
+use std::alloc::Global;
 
-/// A journal of no frames: the letters FNHJ, version 1, and a closed gate.
+/// The letters FNHJ, and version 1.
+const HEADER: [u8; 6] = [0x46, 0x4E, 0x48, 0x4A, 0x00, 0x01];
+
+/// A journal of no frames: the header and a closed gate.
 const FRESH: [u8; 7] = [0x46, 0x4E, 0x48, 0x4A, 0x00, 0x01, 0x00];
 
 /// The place of the first gate.
 const FIRST_GATE: u64 = 6;
 
-/// Makes the file a journal that is whole and on the disk, and gives the place of its next gate. It
-/// begins with a sync. A file of at most 7 bytes is made anew where it isn't exactly a journal of no
-/// frames; a longer one is left as it is.
-pub fn prepare<J: Disk>(disk: &mut J) -> Result<u64, MountFault>
-    ensures ends { Prepares (J.told disk.old) (J.told disk.new) (J.disk_faults disk.old) (J.disk_faults disk.new) result }
-    ensures gate { IfOk result (λ gate. gate ≡ 6) }
+/// What mounting finds in a file: its frames, and the place of the gate behind them.
+#[derive(Drop)]
+pub struct Prepared {
+    pub frames: Frames,
+    pub gate: u64,
+}
+
+/// Makes the file a journal that is whole and on the disk, and reads its frames. It begins with a sync.
+/// A file of at most 7 bytes is a journal of no frames; it is written anew where it isn't exactly that.
+/// Nothing else is written, and a file that is refused stays as it is.
+pub fn prepare<J: Disk>(alloc: Global, disk: &mut J) -> Result<Prepared, MountFault>
+    ensures stands { IfOk result (λ made. Keeps (J.told disk.new) (J.may_leave disk.new) false (payloads_of made.frames) [] made.gate) }
+    ensures durable { OnOk result (OnlyTold (J.told disk.new) (J.may_leave disk.new)) }
+    ensures places { IfOk result (λ made. made.frames ≡ frames_from 6 (payloads_of made.frames)) }
+    ensures file { MountsTold (J.told disk.old) (J.told disk.new) result }
+    ensures fault { IsErrOf result MountFault.DiskFault → Rose (J.disk_faults disk.old) (J.disk_faults disk.new) }
+    ensures any_moment { IfSome (J.told disk.old) (λ file. LeavesOnly J.moment J.left_since disk.old disk.new
+        (λ c. J.may_leave disk.old c ⊎ IsBeingMade file c)) }
+    ensures same_journal { (payloads : List (List ℕ)) → IfSome (J.told disk.old) (λ file. IsJournalOf file payloads
+        → LeavesOnly J.moment J.left_since disk.old disk.new (λ c. J.may_leave disk.old c ⊎ IsJournalOf c payloads)) }
+    ensures told { StaysTold (J.told disk.old) (J.told disk.new) }
     ensures count { J.disk_faults disk.old ≤ J.disk_faults disk.new }
 {
+    let end = begin(disk)?;
+    if end <= FRESH.len() as u64 {
+        make_anew(disk, end)?;
+        return Ok(Prepared {
+            frames: Frames::new(Vec::new(alloc)),
+            gate: FIRST_GATE,
+        });
+    }
+    if !begins_with_header(disk)? {
+        return Err(MountFault::BadHeader);
+    }
+    read_frames(alloc, disk, end)
+}
+
+// Brings what reads give onto the disk, and says how long it is.
+fn begin<J: Disk>(disk: &mut J) -> Result<u64, Failed>
+    ensures length { IfOk result (λ end. IfSome (J.told disk.old) (λ file. length file ≡ end)) }
+    ensures durable { OnOk result (OnlyTold (J.told disk.new) (J.may_leave disk.new)) }
+    ensures quiet { OnlyReads J.told J.may_leave J.moment J.left_since disk.old disk.new }
+    ensures cause { HasCause (J.disk_faults disk.old) (J.disk_faults disk.new) result }
+{
     disk.sync()?;
-    let length = disk.length()?;
-    if length > FRESH.len() as u64 {
-        return Err(MountFault::Later);
+    disk.length()
+}
+
+// Writes a file of at most 7 bytes anew where it isn't exactly a journal of no frames.
+fn make_anew<J: Disk>(disk: &mut J, end: u64) -> Result<(), Failed>
+    requires short { end ≤ 7 }
+    requires length { IfSome (J.told disk.old) (λ file. length file ≡ end) }
+    requires durable { OnlyTold (J.told disk.old) (J.may_leave disk.old) }
+    ensures made { OnOk result (J.told disk.new ≡ option_map (λ _. fresh_file) (J.told disk.old)) }
+    ensures durable { OnOk result (OnlyTold (J.told disk.new) (J.may_leave disk.new)) }
+    ensures told { StaysTold (J.told disk.old) (J.told disk.new) }
+    ensures short { IfSome (J.told disk.new) (λ file. length file ≤ 7) }
+    ensures any_moment { IfSome (J.told disk.old) (λ _. LeavesOnly J.moment J.left_since disk.old disk.new (λ c. length c ≤ 7)) }
+    ensures cause { HasCause (J.disk_faults disk.old) (J.disk_faults disk.new) result }
+{
+    if end == FRESH.len() as u64 && is_fresh(disk)? {
+        return Ok(());
     }
-    if !(length == FRESH.len() as u64 && is_fresh(disk)?) {
-        disk.write_at(0, &FRESH)?;
-        disk.sync()?;
-    }
-    Ok(FIRST_GATE)
+    write_durably(disk, 0, &FRESH)
 }
 
 // Whether a file of 7 bytes is a journal of no frames.
 fn is_fresh<J: Disk>(disk: &mut J) -> Result<bool, Failed>
     ensures fresh { IfOk result (λ fresh. IfSome (J.told disk.old) (λ file. length file ≡ 7 → fresh ≡ true → file ≡ fresh_file)) }
-    ensures told { J.told disk.new ≡ J.told disk.old }
+    ensures quiet { OnlyReads J.told J.may_leave J.moment J.left_since disk.old disk.new }
     ensures cause { HasCause (J.disk_faults disk.old) (J.disk_faults disk.new) result }
 {
     let mut bytes = [0; 7];
     let full = read_fully(disk, 0, &mut bytes)?;
     Ok(full && bytes == FRESH)
+}
+
+// Whether a file of more than 7 bytes begins with the header.
+fn begins_with_header<J: Disk>(disk: &mut J) -> Result<bool, Failed>
+    ensures header { IfOk result (λ begins. IfSome (J.told disk.old) (λ file. 7 < length file → BeginsWithHeader file begins)) }
+    ensures quiet { OnlyReads J.told J.may_leave J.moment J.left_since disk.old disk.new }
+    ensures cause { HasCause (J.disk_faults disk.old) (J.disk_faults disk.new) result }
+{
+    let mut bytes = [0; 6];
+    let full = read_fully(disk, 0, &mut bytes)?;
+    Ok(full && bytes == HEADER)
 }

@@ -1,10 +1,12 @@
-use Rattle.std.proofs.Common.{◌∙◌, refl, arith}
+use Rattle.std.proofs.Common.{arith}
+use Rattle.fh_journal.proofs.Moments.{quiet_start, quiet_call}
 use Rattle.fh_journal.proofs.Filling.{starts, goes_on, fits, ends}
 use Rattle.fh_journal.proofs.reading.read_fully.Goals as goal
 
 pub loop-filled-init : goal.loop-filled-init
 loop-filled-init g c = record {
-  told = refl;
+  quiet =
+      quiet_start g.J.Disk.told g.J.Disk.may_leave g.J.Disk.moment g.J.Disk.left_since c.args.disk.now (g.met.J.Disk.only_now c.args.disk.now);
   count = omega arith;
   bound = omega arith;
   filling = starts _ c.args.at c.args.buf.now;
@@ -12,14 +14,21 @@ loop-filled-init g c = record {
 
 pub loop-filled-preserved : goal.loop-filled-preserved
 loop-filled-preserved g c = record {
-  told = c.read_at.ensures.told ∙ c.loop-filled.invariant.told;
+  quiet =
+      quiet_call g.J.Disk.told g.J.Disk.may_leave g.J.Disk.moment g.J.Disk.left_since _ _ _ c.loop-filled.invariant.quiet c.read_at.ensures.told
+      c.read_at.ensures.images c.read_at.ensures.time;
   count = omega (arith, c.loop-filled.invariant.count, c.read_at.ensures.cause.later);
   bound = fits c.loop-filled.filled c.in_ok-count.count c.loop-filled.buf c.read_at.new.buf _ c.loop-filled.invariant.bound c.in_ok-count.ensures.bound.0;
   filling =
-      goes_on _ _ c.args.at c.loop-filled.filled c.in_ok-count.count c.loop-filled.buf c.read_at.new.buf _ c.loop-filled.invariant.told
+      goes_on _ _ c.args.at c.loop-filled.filled c.in_ok-count.count c.loop-filled.buf c.read_at.new.buf _ c.loop-filled.invariant.quiet.same_bytes
       c.loop-filled.invariant.bound c.in_ok-count.ensures.bound.0 c.loop-filled.invariant.filling c.in_ok-count.ensures.bytes;
 }
 
 pub returns-clause-bytes : goal.returns-clause-bytes
 returns-clause-bytes g c =
     ends _ c.args.at c.loop-filled.filled c.loop-filled.buf c.loop-filled.invariant.bound c.loop-filled-test.false c.loop-filled.invariant.filling
+
+pub returns-in_err-count-clause-quiet : goal.returns-in_err-count-clause-quiet
+returns-in_err-count-clause-quiet g c =
+    quiet_call g.J.Disk.told g.J.Disk.may_leave g.J.Disk.moment g.J.Disk.left_since _ _ _ c.loop-filled.invariant.quiet c.read_at.ensures.told
+    c.read_at.ensures.images c.read_at.ensures.time
