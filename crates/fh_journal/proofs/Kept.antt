@@ -78,3 +78,17 @@ module _ (told now : Option (List ℕ)) (images later : List ℕ → Type 0) (pa
   keeps_mended failed keeps written only =
       only_each told now images later (IsOf true payloads failed gate) (IsOf false payloads [] gate) gate (0 ∷ [])
       (λ file. closes_gate payloads failed file gate) keeps written only
+
+-- a torn journal whose mend failed
+pub keeps_torn : (told now : Option (List ℕ)) (images later : List ℕ → Type 0) (torn : Bool) (payloads : List (List ℕ)) (failed : List ℕ) (gate : ℕ)
+    → torn ≡ true → Keeps told images torn payloads failed gate → TornTold gate 1 told now → Follows (Torn gate 1) images later
+    → Keeps now later torn payloads failed gate
+keeps_torn told now images later false payloads failed gate is keeps torn follows = absurd (cc is)
+keeps_torn told now images later true payloads failed gate is keeps torn follows =
+    keeps_doubt told now images later payloads gate failed keeps torn follows
+
+-- one that isn't torn
+pub whole_keeps : (told : Option (List ℕ)) (images : List ℕ → Type 0) (torn : Bool) (payloads : List (List ℕ)) (failed : List ℕ) (gate : ℕ)
+    → torn ≡ false → Keeps told images false payloads [] gate → Keeps told images torn payloads failed gate
+whole_keeps told images false payloads failed gate is keeps = keeps
+whole_keeps told images true payloads failed gate is keeps = absurd (cc is)

@@ -2,4 +2,5 @@ pub mod Bytes
 pub mod Filling
 pub mod Kept
 pub mod Moments
+pub mod Since
 pub mod Torn
