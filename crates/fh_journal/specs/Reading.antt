@@ -1,8 +1,9 @@
 -- What reads of a file find: a buffer that is filled, and what stands at a gate.
 use Rattle.std.specs.Prelude.{◌≡◌, ◌≢◌, ⊤, ℕ, ◌-◌, ◌<◌, ◌≤◌, Bool, true, false, List, ◌∷◌, ◌++◌, length, take, drop, Option, Some, None, Result, Ok, Err}
+use Rattle.std.specs.Int.{w32, to_be_bytes}
 use Rattle.fh_journal.specs.Journal.{frame, header, IsShort, Stands}
 use Rattle.fh_journal.specs.Frames.{payloads_of}
-use Rattle.fh_journal.specs.Mounting.{Breaks, BreaksAt, length_field}
+use Rattle.fh_journal.specs.Mounting.{Breaks, BreaksAt}
 use Rattle.fh_journal.specs.declared.faults.FrameRule.{FrameRule}
 use Rattle.fh_journal.specs.declared.faults.MountFault.{MountFault}
 use Rattle.fh_journal.specs.declared.faults.MountFault.TheVariants.{BadHeader, BadFrame, DiskFault, NoMemory}
@@ -24,8 +25,7 @@ pub record EndsAt (file : List ℕ) (at : ℕ) : Type 0 where
 pub record OpensAt (file : List ℕ) (at size : ℕ) : Type 0 where
   pub behind : List ℕ
   pub here : drop at file ≡ 1 ∷ behind
-  pub whole : 4 ≤ length behind
-  pub given : size ≡ length_field behind
+  pub given : take 4 behind ≡ to_be_bytes w32 size
   pub short : size ≤ 16777216
 
 -- a whole frame has its gate at this place

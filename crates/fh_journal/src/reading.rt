@@ -1,5 +1,5 @@
 // Reads that go on until a buffer is full.
-ghost use Rattle.std.specs.Prelude.{◌≡◌, ◌+◌, ◌<◌, ◌≤◌, ◌^◌, Bool, true, length, IfOk, IfSome, IsErr};
+ghost use Rattle.std.specs.Prelude.{◌+◌, ◌<◌, ◌^◌, ℕ, length, slice_index, IfOk, IfSome};
 ghost use Rattle.fh_base.specs.Faults.{HasCause};
 ghost use Rattle.fh_journal.specs.Keeping.{OnlyReads};
 ghost use Rattle.fh_journal.specs.Reading.{Fills};
@@ -11,6 +11,7 @@ use fh_disk::Disk;
 pub(crate) fn read_fully<J: Disk>(disk: &mut J, at: u64, buf: &mut [u8]) -> Result<bool, Failed>
     requires { at + length buf.old < 2 ^ 64 }
     ensures bytes { IfOk result (λ full. IfSome (J.told disk.old) (λ file. Fills file at buf.new full)) }
+    ensures fit { (i : ℕ) → slice_index buf.new i < 256 }
     ensures quiet { OnlyReads J.told J.may_leave J.moment J.left_since disk.old disk.new }
     ensures cause { HasCause (J.disk_faults disk.old) (J.disk_faults disk.new) result }
 {

@@ -9,6 +9,7 @@ loop-filled-init g c = record {
       quiet_start g.J.Disk.told g.J.Disk.may_leave g.J.Disk.moment g.J.Disk.left_since c.args.disk.now (g.met.J.Disk.only_now c.args.disk.now);
   count = omega arith;
   bound = omega arith;
+  fit = λ i. (c.type_inv.buf i).fits;
   filling = starts _ c.args.at c.args.buf.now;
 }
 
@@ -18,6 +19,7 @@ loop-filled-preserved g c = record {
       quiet_call g.J.Disk.told g.J.Disk.may_leave g.J.Disk.moment g.J.Disk.left_since _ _ _ c.loop-filled.invariant.quiet c.read_at.ensures.told
       c.read_at.ensures.images c.read_at.ensures.time;
   count = omega (arith, c.loop-filled.invariant.count, c.read_at.ensures.cause.later);
+  fit = λ i. (c.type_inv.buf i).fits;
   bound = fits c.loop-filled.filled c.in_ok-count.count c.loop-filled.buf c.read_at.new.buf _ c.loop-filled.invariant.bound c.in_ok-count.ensures.bound.0;
   filling =
       goes_on _ _ c.args.at c.loop-filled.filled c.in_ok-count.count c.loop-filled.buf c.read_at.new.buf _ c.loop-filled.invariant.quiet.same_bytes
@@ -32,3 +34,6 @@ pub returns-in_err-count-clause-quiet : goal.returns-in_err-count-clause-quiet
 returns-in_err-count-clause-quiet g c =
     quiet_call g.J.Disk.told g.J.Disk.may_leave g.J.Disk.moment g.J.Disk.left_since _ _ _ c.loop-filled.invariant.quiet c.read_at.ensures.told
     c.read_at.ensures.images c.read_at.ensures.time
+
+pub returns-clause-fit : goal.returns-clause-fit
+returns-clause-fit g c = c.loop-filled.invariant.fit
