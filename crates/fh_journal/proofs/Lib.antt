@@ -4,6 +4,7 @@ pub mod Gates
 pub mod Kept
 pub mod Making
 pub mod Moments
+pub mod Readings
 pub mod Since
 pub mod Torn
 pub mod Walk

@@ -49,7 +49,7 @@ IsLeft was now = (now ≡ was) ⊎ ((length was ≤ 7) × (length now ≤ 7))
 abbrev pub Mounts : List ℕ → List ℕ → Result Prepared MountFault → Type 0
 Mounts was now (Ok made) = now ≡ mounted_file was
 Mounts was now (Err BadHeader) = (now ≡ was) × IsForeign was
-Mounts was now (Err (BadFrame at rule)) = (now ≡ was) × BreaksAt was at rule
+Mounts was now (Err (BadFrame at rule)) = (now ≡ was) × (7 < length was) × BreaksAt was at rule
 Mounts was now (Err DiskFault) = IsLeft was now
 Mounts was now (Err NoMemory) = IsLeft was now
 

@@ -14,6 +14,7 @@ mod faults;
 mod frame_reading;
 mod frames;
 mod journal;
+mod laws;
 mod mounting;
 mod reading;
 mod writing;
@@ -21,6 +22,7 @@ mod writing;
 pub use faults::{AppendFault, FrameRule, MountFault};
 pub use frames::{Frame, Frames, Payload};
 pub use journal::Journal;
+pub use laws::files_have_one_reading;
 pub use mounting::{Prepared, prepare};
 
 #[cfg(test)]
