@@ -134,18 +134,24 @@ stays_in_doubt payloads failed gate old c doubt torn =
 pub doubt_reads : (payloads : List (List ℕ)) (failed : List ℕ) (gate : ℕ) (file : List ℕ) → InDoubt file payloads failed gate
     → MayReadAs true payloads failed file
 doubt_reads payloads failed gate file doubt = elim (cases_eq doubt.either 1) [
-  | inl is_open ↦ inr (refl, inr (
-    gate + 5 + length failed,
-    opens payloads failed file gate doubt.closed doubt.rest doubt.shut doubt.place doubt.short doubt.failed_short (doubt.whole ∙ at_gate is_open),
+  | inl is_open ↦ inr (
+    refl,
+    inr (
+      gate + 5 + length failed,
+      opens payloads failed file gate doubt.closed doubt.rest doubt.shut doubt.place doubt.short doubt.failed_short (doubt.whole ∙ at_gate is_open),
+    ),
+  )
+  | inr shut ↦ inl (inr (
+    gate,
+    record {
+      closed = doubt.either;
+      rest = to_be_bytes w32 (length failed) ++ failed ++ doubt.closed ∷ doubt.rest;
+      shut = shut;
+      place = doubt.place;
+      whole = doubt.whole;
+      short = doubt.short;
+    },
   ))
-  | inr shut ↦ inl (inr (gate, record {
-    closed = doubt.either;
-    rest = to_be_bytes w32 (length failed) ++ failed ++ doubt.closed ∷ doubt.rest;
-    shut = shut;
-    place = doubt.place;
-    whole = doubt.whole;
-    short = doubt.short;
-  }))
 ]
   where
     at_gate : doubt.either ≡ 1 → opened payloads ++ doubt.either ∷ (to_be_bytes w32 (length failed) ++ failed ++ doubt.closed ∷ doubt.rest)

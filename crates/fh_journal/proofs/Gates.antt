@@ -63,11 +63,14 @@ pub too_long_at : (told : Option (List ℕ)) (end at : ℕ) (buf : List ℕ) (fu
     → IfSome told (λ file. length file ≡ end → (at ≡ at) × RuleBrokenAt file at (Length size))
 too_long_at None end at buf full size is fills long first given great = tt
 too_long_at (Some file) end at buf false size is fills long first given great = absurd (cc is)
-too_long_at (Some file) end at buf true size is fills long first given great = λ _. (refl, record {
-  behind = field_of buf ++ drop 5 (drop at file);
-  here = begun_at file at buf fills long first;
-  breaks = (omega (arith, length-append (field_of buf) (drop 5 (drop at file))), given, great);
-})
+too_long_at (Some file) end at buf true size is fills long first given great = λ _. (
+  refl,
+  record {
+    behind = field_of buf ++ drop 5 (drop at file);
+    here = begun_at file at buf fills long first;
+    breaks = (omega (arith, length-append (field_of buf) (drop 5 (drop at file))), given, great);
+  },
+)
 
 -- the bytes behind a gate, of which the file has so many
 length-behind : (file : List ℕ) (at gate : ℕ) (behind : List ℕ) → drop at file ≡ gate ∷ behind → length behind + 1 ≡ length file - at
@@ -117,6 +120,6 @@ pub frame_at : (told : Option (List ℕ)) (end at size : ℕ) (found : Option �
     → length buf ≡ size → payload ≡ buf → IfSome told (λ file. length file ≡ end → FrameAt file at payload)
 frame_at None end at size found full buf payload is filled reads fills long same = tt
 frame_at (Some file) end at size found full buf payload is filled reads fills long same = λ whole. rw same (
-  frame_in file at size buf (subst (λ (o : Option ℕ). ReadsSize file at (Ok o)) is (reads whole))
-  (subst (λ (b : Bool). Fills file (at + 5) buf b) filled fills) long
-)
+    frame_in file at size buf (subst (λ (o : Option ℕ). ReadsSize file at (Ok o)) is (reads whole))
+    (subst (λ (b : Bool). Fills file (at + 5) buf b) filled fills) long
+    )

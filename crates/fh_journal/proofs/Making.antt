@@ -10,8 +10,16 @@ short_opened : (file : List ℕ) (payloads : List (List ℕ)) (rest : List ℕ) 
 short_opened file [] rest short is some = refl
 short_opened file (payload ∷ payloads) rest short is some =
     let size = to_be_bytes w32 (length payload) in
-    absurd (omega (arith, short, some, ap length is, length-append (opened (payload ∷ payloads)) rest, length-append header (frame payload ++ flat_map frame payloads),
-      length-append (frame payload) (flat_map frame payloads), length-append size payload))
+    absurd (omega (
+      arith,
+      short,
+      some,
+      ap length is,
+      length-append (opened (payload ∷ payloads)) rest,
+      length-append header (frame payload ++ flat_map frame payloads),
+      length-append (frame payload) (flat_map frame payloads),
+      length-append size payload,
+    ))
 
 -- it is a journal of no frames
 pub short_journal : (file : List ℕ) (payloads : List (List ℕ)) → length file ≤ 7 → IsJournalOf file payloads → payloads ≡ []

@@ -26,7 +26,7 @@ module _ {D : Type 0} (moment : D → ℕ) (left_since : D → ℕ → List ℕ 
     later = omega (arith, first.later, second.later);
     each = λ c left. ⊎_elim (λ was. p c (first.each c was)) (q c) (second.before (moment old) c first.later left);
     before = λ t c le left. ⊎_elim (λ was. ⊎_elim (λ earlier. inl earlier) (λ now. inr (p c now)) (first.before t c le was)) (λ now. inr (q c now))
-    (second.before t c (omega (arith, le, first.later)) left);
+        (second.before t c (omega (arith, le, first.later)) left);
   }
 
   pub widens : (old new : D) (P Q : List ℕ → Type 0) → LeavesOnly moment left_since old new P → ((c : List ℕ) → P c → Q c)

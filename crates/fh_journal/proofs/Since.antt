@@ -36,7 +36,7 @@ module _ {D : Type 0} (moment : D → ℕ) (left_since : D → ℕ → List ℕ 
   stage_since old new told images payloads gate n time keeps =
       where_each told images (IsOf false payloads [] gate) _ keeps
       (λ each. widens moment left_since old new _ (λ c. Stands c payloads gate) time
-        (λ c from. stays_closed payloads gate n from.0 c (each from.0 from.1) from.2))
+      (λ c from. stays_closed payloads gate n from.0 c (each from.0 from.1) from.2))
 
   -- a write of the gate
   pub gate_since : (old new : D) (told : Option (List ℕ)) (images : List ℕ → Type 0) (payloads : List (List ℕ)) (failed : List ℕ) (gate : ℕ)
@@ -45,7 +45,7 @@ module _ {D : Type 0} (moment : D → ℕ) (left_since : D → ℕ → List ℕ 
   gate_since old new told images payloads failed gate time keeps =
       where_each told images (IsOf true payloads failed gate) _ keeps
       (λ each. widens moment left_since old new _ (λ c. InDoubt c payloads failed gate) time
-        (λ c from. stays_in_doubt payloads failed gate from.0 c (each from.0 from.1) from.2))
+      (λ c from. stays_in_doubt payloads failed gate from.0 c (each from.0 from.1) from.2))
 
   pub mend_since : (old new : D) (told : Option (List ℕ)) (images : List ℕ → Type 0) (torn : Bool) (payloads : List (List ℕ)) (failed : List ℕ) (gate : ℕ)
       → torn ≡ true → LeavesOnly moment left_since old new (λ c. (d : List ℕ) × images d × Torn gate 1 d c) → Keeps told images torn payloads failed gate

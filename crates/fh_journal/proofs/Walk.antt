@@ -41,9 +41,9 @@ places_more frames new at payload is places place =
     let last : Frame = record { at = at; payload = payload } in
     let old = payloads_of frames in
     rw is (
-      ap (λ (l : List Frame). l ++ last ∷ []) places
-      ∙ ap (λ (n : ℕ). frames_from 6 old ++ record { at = n; payload = payload } ∷ []) place
-      ∙ sym (ap (frames_from 6) (payloads_of-push frames last) ∙ frames_from-push 6 old payload)
+    ap (λ (l : List Frame). l ++ last ∷ []) places
+    ∙ ap (λ (n : ℕ). frames_from 6 old ++ record { at = n; payload = payload } ∷ []) place
+    ∙ sym (ap (frames_from 6) (payloads_of-push frames last) ∙ frames_from-push 6 old payload)
     )
 
 -- the file begins with frames of these payloads, and they end here

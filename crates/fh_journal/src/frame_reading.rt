@@ -7,8 +7,8 @@ ghost use Rattle.fh_journal.specs.Keeping.{OnlyReads};
 ghost use Rattle.fh_journal.specs.Reading.{ReadsSize, ReadsFrame, ReadsFrames};
 
 use crate::frames::{Frame, Frames, Payload};
-use crate::mounting::Prepared;
 use crate::journal::{LONGEST, OPEN};
+use crate::mounting::Prepared;
 use crate::reading::read_fully;
 use crate::{FrameRule, MountFault};
 use fh_disk::Disk;

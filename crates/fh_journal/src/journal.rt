@@ -6,12 +6,12 @@ ghost use Rattle.fh_base.specs.Faults.{Rose};
 ghost use Rattle.fh_disk.specs.Disk.{OnlyTold};
 ghost use Rattle.fh_disk.specs.Moments.{LeavesOnly};
 ghost use Rattle.fh_journal.specs.Frames.{payloads_of, frames_from};
-ghost use Rattle.fh_journal.specs.Journal.{MayReadAs};
+ghost use Rattle.fh_journal.specs.Journal.{IsJournalOf, MayReadAs};
 ghost use Rattle.fh_journal.specs.Mounting.{IsBeingMade, MountsTold, mounted_file};
 ghost use Rattle.fh_journal.specs.Keeping.{Keeps, IsBeforeOrAfter, StaysTold};
 
-use crate::{AppendFault, Frames, MountFault, prepare};
 use crate::writing::write_durably;
+use crate::{AppendFault, Frames, MountFault, prepare};
 use fh_base::NoMemory;
 use fh_disk::Disk;
 use std::alloc::Global;
@@ -70,13 +70,19 @@ impl<'d, J: Disk> Journal<'d, J> {
         ensures whole { IfOk result (λ found. found.0.torn ≡ false) }
         ensures places { IfOk result (λ found. found.1 ≡ frames_from 6 (payloads_of found.1)) }
         ensures file { IfOk result (λ found. J.told found.0.disk.now ≡ option_map mounted_file (J.told disk.entry.now)) }
-        ensures any_moment { IfOk result (λ found. IfSome (J.told disk.entry.now) (λ file.
-            LeavesOnly J.moment J.left_since disk.entry.now found.0.disk.now (λ c. J.may_leave disk.entry.now c ⊎ IsBeingMade file c))) }
         ensures refused { IfErr result (λ refused. MountsTold (J.told disk.entry.now) (J.told refused.1.now) (Err refused.0)) }
         ensures fault { IfErr result (λ refused. refused.0 ≡ MountFault.DiskFault
             → Rose (J.disk_faults disk.entry.now) (J.disk_faults refused.1.now)) }
-        ensures any_moment_refused { IfErr result (λ refused. IfSome (J.told disk.entry.now) (λ file.
-            LeavesOnly J.moment J.left_since disk.entry.now refused.1.now (λ c. J.may_leave disk.entry.now c ⊎ IsBeingMade file c))) }
+        ensures any_moment { MatchResult result
+            (λ found. IfSome (J.told disk.entry.now) (λ file. LeavesOnly J.moment J.left_since disk.entry.now found.0.disk.now
+            (λ c. J.may_leave disk.entry.now c ⊎ IsBeingMade file c)))
+            (λ refused. IfSome (J.told disk.entry.now) (λ file. LeavesOnly J.moment J.left_since disk.entry.now refused.1.now
+            (λ c. J.may_leave disk.entry.now c ⊎ IsBeingMade file c))) }
+        ensures same_journal { (payloads : List (List ℕ)) → MatchResult result
+            (λ found. IfSome (J.told disk.entry.now) (λ file. IsJournalOf file payloads → LeavesOnly J.moment J.left_since
+            disk.entry.now found.0.disk.now (λ c. J.may_leave disk.entry.now c ⊎ IsJournalOf c payloads)))
+            (λ refused. IfSome (J.told disk.entry.now) (λ file. IsJournalOf file payloads → LeavesOnly J.moment J.left_since
+            disk.entry.now refused.1.now (λ c. J.may_leave disk.entry.now c ⊎ IsJournalOf c payloads))) }
         ensures count { MatchResult result (λ found. J.disk_faults disk.entry.now ≤ J.disk_faults found.0.disk.now)
             (λ refused. J.disk_faults disk.entry.now ≤ J.disk_faults refused.1.now) }
         ensures same { MatchResult result (λ found. found.0.disk.ghost_name ≡ disk.entry.ghost_name)
@@ -152,7 +158,7 @@ impl<'d, J: Disk> Journal<'d, J> {
         ensures any_moment { (payloads : List (List ℕ)) (failed : List ℕ)
             → Keeps (J.told self.old.disk.now) (J.may_leave self.old.disk.now) self.old.torn payloads failed self.old.gate
             → IfSome (J.told self.old.disk.now) (λ _. LeavesOnly J.moment J.left_since self.old.disk.now self.new.disk.now
-                (IsBeforeOrAfter self.old.torn payloads failed payload.now)) }
+            (IsBeforeOrAfter self.old.torn payloads failed payload.now)) }
         ensures reserved { vec_capacity self.old.buffer ≤ vec_capacity self.new.buffer }
         ensures told { StaysTold (J.told self.old.disk.now) (J.told self.new.disk.now) }
         ensures count { J.disk_faults self.old.disk.now ≤ J.disk_faults self.new.disk.now }
@@ -186,7 +192,7 @@ impl<'d, J: Disk> Journal<'d, J> {
         ensures any_moment { (payloads : List (List ℕ)) (failed : List ℕ)
             → Keeps (J.told self.old.disk.now) (J.may_leave self.old.disk.now) self.old.torn payloads failed self.old.gate
             → IfSome (J.told self.old.disk.now) (λ _. LeavesOnly J.moment J.left_since self.old.disk.now self.new.disk.now
-                (MayReadAs self.old.torn payloads failed)) }
+            (MayReadAs self.old.torn payloads failed)) }
         ensures gate { self.new.gate ≡ self.old.gate }
         ensures reserved { vec_capacity self.new.buffer ≡ vec_capacity self.old.buffer }
         ensures told { StaysTold (J.told self.old.disk.now) (J.told self.new.disk.now) }

@@ -10,11 +10,11 @@ ghost use Rattle.fh_journal.specs.Keeping.{Keeps, OnlyReads, StaysTold};
 ghost use Rattle.fh_journal.specs.Mounting.{IsBeingMade, MountsTold, fresh_file};
 ghost use Rattle.fh_journal.specs.Reading.{BeginsWithHeader};
 
+use crate::MountFault;
 use crate::frame_reading::read_frames;
 use crate::frames::Frames;
 use crate::reading::read_fully;
 use crate::writing::write_durably;
-use crate::MountFault;
 use fh_base::Failed;
 use fh_disk::Disk;
 use std::alloc::Global;

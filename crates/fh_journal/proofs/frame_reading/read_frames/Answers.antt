@@ -34,6 +34,6 @@ returns-in_err-payload-clause-read g c =
 pub returns-clause-read : goal.returns-clause-read
 returns-clause-read g c =
     rw c.new.ensures (
-      told_stands _ _ c.args.end c.loop-frames.at _ c.in_ok-payload.field-0 c.loop-frames.invariant.quiet.same_bytes c.in_default.is c.loop-frames.invariant.read
-      c.in_ok-payload.ensures.read
+    told_stands _ _ c.args.end c.loop-frames.at _ c.in_ok-payload.field-0 c.loop-frames.invariant.quiet.same_bytes c.in_default.is c.loop-frames.invariant.read
+    c.in_ok-payload.ensures.read
     )

@@ -19,10 +19,10 @@ pub returns-in_err-write_durably-clause-not_added : goal.returns-in_err-write_du
 returns-in_err-write_durably-clause-not_added g c =
     let not_added = λ (payloads : List (List ℕ)) (failed : List ℕ)
     (keeps : Keeps (g.J.Disk.told c.args.self.now.disk.now) (g.J.Disk.may_leave c.args.self.now.disk.now) c.args.self.now.torn payloads failed
-      c.args.self.now.gate). 
+    c.args.self.now.gate).
     let kept : Before (g.J.Disk.told c.write_durably.new.disk) (g.J.Disk.may_leave c.write_durably.new.disk) c.mend.new.self.torn payloads failed c.args.payload.now c.mend.new.self.gate =
     inl (whole_keeps _ _ c.mend.new.self.torn payloads failed c.mend.new.self.gate c.in_ok-mend.ensures.whole
-      (keeps_closed _ _ _ _ payloads _ _ (c.in_ok-mend.ensures.mended payloads failed keeps) c.write_durably.ensures.torn c.write_durably.ensures.images)) in kept in
+    (keeps_closed _ _ _ _ payloads _ _ (c.in_ok-mend.ensures.mended payloads failed keeps) c.write_durably.ensures.torn c.write_durably.ensures.images)) in kept in
     on_err _ not_added
 
 pub returns-in_err-write_durably-clause-any_moment : goal.returns-in_err-write_durably-clause-any_moment
@@ -39,7 +39,7 @@ pub returns-in_err-write_durably-2-clause-not_added : goal.returns-in_err-write_
 returns-in_err-write_durably-2-clause-not_added g c =
     let not_added = λ (payloads : List (List ℕ)) (failed : List ℕ)
     (keeps : Keeps (g.J.Disk.told c.args.self.now.disk.now) (g.J.Disk.may_leave c.args.self.now.disk.now) c.args.self.now.torn payloads failed
-      c.args.self.now.gate). 
+    c.args.self.now.gate).
     let staged = keeps_staged _ _ _ _ payloads _ c.args.payload.now _ (c.deref.ensures.value ∙ c.put_frame.ensures.bytes) c.requires.short
     (c.in_ok-mend.ensures.mended payloads failed keeps) c.in_ok-write_durably.ensures.written c.in_ok-write_durably.ensures.durable in
     let kept : Before (g.J.Disk.told c.write_durably-2.new.disk) (g.J.Disk.may_leave c.write_durably-2.new.disk) true payloads failed c.args.payload.now c.mend.new.self.gate =

@@ -10,7 +10,7 @@ returns-in_err-write_durably-clause-kept g c =
     let is_torn : c.args.self.now.torn ≡ true = grind (arith, common_steps) in
     let kept = λ (payloads : List (List ℕ)) (failed : List ℕ)
     (keeps : Keeps (g.J.Disk.told c.args.self.now.disk.now) (g.J.Disk.may_leave c.args.self.now.disk.now) c.args.self.now.torn payloads failed
-      c.args.self.now.gate).
+    c.args.self.now.gate).
     keeps_torn _ (g.J.Disk.told c.write_durably.new.disk) _ (g.J.Disk.may_leave c.write_durably.new.disk) c.args.self.now.torn payloads failed
     c.args.self.now.gate is_torn keeps c.write_durably.ensures.torn c.write_durably.ensures.images in
     on_err _ kept
