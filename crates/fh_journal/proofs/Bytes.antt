@@ -96,6 +96,9 @@ closes_gate payloads failed file gate doubt = record {
   short = doubt.short;
 }
 
+put_behind : (front c back other : List ℕ) → c ≡ front ++ back → back ≡ other → c ≡ front ++ other
+put_behind front c back other is same = is ∙ ap (λ (l : List ℕ). front ++ l) same
+
 -- a write behind the gate leaves it closed, also where it is cut short
 pub stays_closed : (payloads : List (List ℕ)) (gate n : ℕ) (old c : List ℕ) → Stands old payloads gate → Torn (gate + 1) n old c → Stands c payloads gate
 stays_closed payloads gate n old c stands torn =
@@ -107,7 +110,7 @@ stays_closed payloads gate n old c stands torn =
       rest = behind.0;
       shut = stands.shut;
       place = stands.place;
-      whole = past.1 ∙ ap (λ (l : List ℕ). opened payloads ++ l) behind.1;
+      whole = put_behind (opened payloads) c past.0 (stands.closed ∷ behind.0) past.1 behind.1;
       short = stands.short;
     }
 
@@ -125,7 +128,7 @@ stays_in_doubt payloads failed gate old c doubt torn =
       rest = doubt.rest;
       shut = doubt.shut;
       place = doubt.place;
-      whole = past.1 ∙ ap (λ (l : List ℕ). opened payloads ++ l) first.1;
+      whole = put_behind (opened payloads) c past.0 (first.0 ∷ back) past.1 first.1;
       short = doubt.short;
       failed_short = doubt.failed_short;
     }

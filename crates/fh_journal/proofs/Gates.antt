@@ -1,11 +1,10 @@
 -- What a read at a gate finds.
-use Rattle.std.proofs.Common.{◌≡◌, inl, inr, ℕ, zero, suc, ◌+◌, ◌-◌, ◌<◌, ◌≤◌, Bool, true, false, List, [], ◌∷◌, ◌++◌, length, take, drop, get_or, Option, Some, None, IfSome, Result, Ok, Err, refl, sym, ◌∙◌, ap, subst, arith, take-append-drop, length-drop, length-append, append_assoc, w32}
+use Rattle.std.proofs.Common.{◌≡◌, inr, ℕ, zero, suc, ◌+◌, ◌-◌, ◌<◌, ◌≤◌, Bool, true, false, List, [], ◌∷◌, ◌++◌, length, take, drop, get_or, Option, Some, None, IfSome, Result, Ok, Err, refl, sym, ◌∙◌, ap, subst, arith, take-append-drop, length-drop, length-append, append_assoc, w32}
 use Rattle.std.specs.Int.{to_be_bytes, from_be_bytes}
 use Rattle.std.proofs.lemmas.List.{drop-drop}
 use Rattle.std.proofs.lemmas.Nat.{be_bytes_4, from_be_bytes-to_be_bytes_4}
 use Rattle.fh_journal.specs.Reading.{Fills, OpensAt, FrameAt, RuleBrokenAt, ReadsSize, ReadsFrame}
 use Rattle.fh_journal.specs.Mounting.{length_field}
-use Rattle.fh_journal.specs.Journal.{frame}
 use Rattle.fh_journal.specs.declared.faults.MountFault.{MountFault}
 use Rattle.fh_journal.specs.declared.faults.MountFault.TheVariants.{BadFrame}
 use Rattle.fh_journal.specs.declared.faults.FrameRule.TheVariants.{Cut, Length}

@@ -1,10 +1,10 @@
 -- What a disk keeps over the writes of an append and of a mend.
-use Rattle.std.proofs.Common.{◌≡◌, ℕ, ◌+◌, Bool, true, false, List, [], ◌∷◌, ◌++◌, length, Option, Some, None, IfSome, refl, sym, subst, w32}
+use Rattle.std.proofs.Common.{◌≡◌, ℕ, ◌+◌, Bool, true, false, List, [], ◌∷◌, ◌++◌, length, Option, Some, None, IfSome, sym, subst, w32}
 use Rattle.std.specs.Int.{to_be_bytes}
 use Rattle.std.specs.Option.{option_map}
-use Rattle.fh_disk.specs.Disk.{written_at, Torn, TornTold, Follows, NoNewImage, OnlyTold, Only}
+use Rattle.fh_disk.specs.Disk.{written_at, Torn, TornTold, Follows, OnlyTold}
 use Rattle.fh_disk.specs.Torn.{torn_written}
-use Rattle.fh_journal.specs.Journal.{IsShort, Stands, InDoubt, IsOf}
+use Rattle.fh_journal.specs.Journal.{IsShort, IsOf}
 use Rattle.fh_journal.specs.Keeping.{Each, Keeps, StaysTold}
 use Rattle.fh_journal.proofs.Bytes.{staged, opens_gate, closes_gate, stays_closed, stays_in_doubt}
 

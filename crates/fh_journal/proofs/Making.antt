@@ -1,9 +1,9 @@
 -- A file of at most 7 bytes that is made anew.
-use Rattle.std.proofs.Common.{◌≡◌, ◌⊎◌, inl, inr, ℕ, ◌+◌, ◌≤◌, List, [], ◌∷◌, ◌++◌, length, Option, Some, None, IfSome, refl, ap, subst, arith, length-append, w32}
+use Rattle.std.proofs.Common.{◌≡◌, ◌⊎◌, inl, inr, ℕ, ◌≤◌, List, [], ◌∷◌, ◌++◌, length, Option, Some, None, IfSome, refl, ap, subst, arith, length-append, w32}
 use Rattle.std.specs.List.{flat_map}
 use Rattle.std.specs.Int.{to_be_bytes}
 use Rattle.fh_disk.specs.Moments.{LeavesOnly}
-use Rattle.fh_journal.specs.Journal.{header, frame, opened, Stands, IsJournalOf}
+use Rattle.fh_journal.specs.Journal.{header, frame, opened, IsJournalOf}
 use Rattle.fh_journal.proofs.Moments.{joins}
 
 short_opened : (file : List ℕ) (payloads : List (List ℕ)) (rest : List ℕ) → length file ≤ 7 → file ≡ opened payloads ++ rest → 1 ≤ length rest → payloads ≡ []

@@ -1,6 +1,6 @@
 -- How a run of device calls goes on, and what holds of each image since it began.
-use Rattle.std.proofs.Common.{◌≡◌, ◌⊎◌, inl, inr, ⊎_elim, ℕ, List, Option, Some, None, IfSome, refl, ◌∙◌, arith}
-use Rattle.fh_disk.specs.Disk.{Torn, NoNewImage}
+use Rattle.std.proofs.Common.{◌≡◌, inl, inr, ⊎_elim, ℕ, List, Option, Some, None, IfSome, refl, ◌∙◌, arith}
+use Rattle.fh_disk.specs.Disk.{NoNewImage}
 use Rattle.fh_disk.specs.Moments.{Elapses, LeavesOnly}
 use Rattle.fh_journal.specs.Keeping.{Each, OnlyReads, StaysTold}
 

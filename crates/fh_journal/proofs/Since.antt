@@ -1,8 +1,8 @@
 -- What a crash since the begin of an append or of a mend leaves.
-use Rattle.std.proofs.Common.{◌≡◌, ◌⊎◌, inl, inr, ⊎_elim, ℕ, ◌+◌, Bool, true, false, List, [], ◌∷◌, ◌++◌, Option, IfSome, Result, Ok, Err, OnErr, refl}
+use Rattle.std.proofs.Common.{◌≡◌, inl, inr, ⊎_elim, ℕ, ◌+◌, Bool, true, false, List, [], Option, IfSome, Result, Ok, Err, OnErr}
 use Rattle.fh_disk.specs.Disk.{Torn}
 use Rattle.fh_disk.specs.Moments.{LeavesOnly}
-use Rattle.fh_journal.specs.Journal.{Stands, InDoubt, IsOf, IsJournalOf, MayReadAs}
+use Rattle.fh_journal.specs.Journal.{Stands, InDoubt, IsOf, MayReadAs}
 use Rattle.fh_journal.specs.Keeping.{Keeps, IsBeforeOrAfter, StaysTold}
 use Rattle.fh_journal.proofs.Bytes.{stays_closed, stays_in_doubt, doubt_reads, reads}
 use Rattle.fh_journal.proofs.Moments.{joins, widens, started, where_told, where_both, where_each}

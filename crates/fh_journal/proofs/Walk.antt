@@ -1,13 +1,12 @@
 -- A walk over the frames of a file.
-use Rattle.std.proofs.Common.{◌≡◌, ℕ, ◌+◌, ◌<◌, ◌≤◌, List, [], ◌∷◌, ◌++◌, length, take, drop, map, Option, Some, None, IfSome, Result, Ok, Err, refl, sym, ◌∙◌, ap, subst, arith, append_assoc, take-add, take-append-drop, length-append, length-take, w32}
-use Rattle.std.specs.List.{flat_map, All}
+use Rattle.std.proofs.Common.{◌≡◌, ℕ, ◌+◌, List, [], ◌∷◌, ◌++◌, length, take, drop, Option, Some, None, IfSome, Result, Ok, Err, refl, sym, ◌∙◌, ap, subst, arith, take-add, take-append-drop, length-append, w32}
+use Rattle.std.specs.List.{All}
 use Rattle.std.specs.Int.{to_be_bytes}
-use Rattle.std.proofs.lemmas.List.{take_at, take-append-le, map-append}
+use Rattle.std.proofs.lemmas.List.{take_at}
 use Rattle.std.proofs.lemmas.List.Elements.{All-append, All-nil, All-replicate}
 use Rattle.fh_journal.specs.Journal.{header, frame, opened, IsShort, Stands}
 use Rattle.fh_journal.specs.Frames.{payloads_of, frames_from}
-use Rattle.fh_journal.specs.Mounting.{BreaksAt}
-use Rattle.fh_journal.specs.Reading.{EndsAt, FrameAt, RuleBrokenAt, Refuses, RefusesFile, ReadsFrame, ReadsFrames}
+use Rattle.fh_journal.specs.Reading.{EndsAt, FrameAt, Refuses, RefusesFile, ReadsFrame, ReadsFrames}
 use Rattle.fh_journal.specs.declared.faults.MountFault.{MountFault}
 use Rattle.fh_journal.specs.declared.faults.MountFault.TheVariants.{BadHeader, BadFrame, DiskFault, NoMemory}
 use Rattle.fh_journal.specs.declared.frames.Frame.{Frame}

@@ -1,5 +1,5 @@
 -- What a disk keeps, as it reads and after a crash.
-use Rattle.std.specs.Prelude.{◌≡◌, ◌⊎◌, ⊤, None, Some, ℕ, ◌≤◌, Bool, List, [], ◌∷◌, ◌++◌, Option, IfSome}
+use Rattle.std.specs.Prelude.{◌≡◌, ◌⊎◌, ⊤, None, Some, ℕ, Bool, List, [], ◌∷◌, ◌++◌, Option, IfSome}
 use Rattle.fh_disk.specs.Disk.{NoNewImage}
 use Rattle.fh_disk.specs.Moments.{LeavesOnly}
 use Rattle.fh_journal.specs.Journal.{IsOf, IsJournalOf, MayReadAs}

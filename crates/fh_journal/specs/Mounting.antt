@@ -1,8 +1,7 @@
 -- How mounting a journal ends, and which frames can't be read.
-use Rattle.std.specs.Prelude.{◌≡◌, ◌≢◌, ◌⊎◌, ◌≤◌, ◌<◌, ℕ, ◌+◌, nat_le, if◌then◌else◌, List, [], ◌∷◌, ◌++◌, length, take, Option, Some, None, IfSome, Result, Ok, Err}
+use Rattle.std.specs.Prelude.{◌≡◌, ◌≢◌, ◌⊎◌, ◌≤◌, ◌<◌, ℕ, ◌+◌, nat_le, if◌then◌else◌, List, [], ◌∷◌, ◌++◌, length, take, Option, Some, None, Result, Ok, Err}
 use Rattle.std.specs.List.{All}
 use Rattle.std.specs.Int.{w32, from_be_bytes}
-use Rattle.std.specs.Option.{option_map}
 use Rattle.fh_journal.specs.Journal.{header, opened, IsShort}
 use Rattle.fh_journal.specs.declared.faults.FrameRule.{FrameRule}
 use Rattle.fh_journal.specs.declared.faults.FrameRule.TheVariants.{Cut, Length}

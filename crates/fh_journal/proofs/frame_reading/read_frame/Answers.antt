@@ -1,4 +1,4 @@
-use Rattle.std.proofs.Common.{◌≡◌, length, arith, length-take, sym, ◌∙◌}
+use Rattle.std.proofs.Common.{◌≡◌, length, arith}
 use Rattle.std.proofs.lemmas.Grind.{common_steps}
 use Rattle.fh_journal.proofs.Gates.{cut_at, frame_at}
 use Rattle.fh_journal.proofs.frame_reading.read_frame.Goals as goal

@@ -1,8 +1,8 @@
-use Rattle.std.proofs.Common.{◌≡◌, ◌+◌, ◌<◌, ◌≤◌, List, ℕ, [], ◌∷◌, ◌++◌, length, Some, None, Err, refl, sym, ◌∙◌, ap, arith, rules}
+use Rattle.std.proofs.Common.{◌≡◌, ◌+◌, ◌<◌, [], ◌∷◌, ◌++◌, length, Err, ◌∙◌, ap, arith}
 use Rattle.std.proofs.lemmas.Grind.{common_steps}
-use Rattle.fh_journal.specs.Frames.{payloads_of, frames_from}
+use Rattle.fh_journal.specs.Frames.{payloads_of}
 use Rattle.fh_journal.proofs.Moments.{quiet_both}
-use Rattle.fh_journal.proofs.Walk.{place_behind, place_behind-push, payloads_of-push, places_more, told_goes_on, told_stands, told_refused}
+use Rattle.fh_journal.proofs.Walk.{place_behind-push, payloads_of-push, places_more, told_goes_on, told_stands, told_refused}
 use Rattle.fh_journal.proofs.frame_reading.read_frames.Goals as goal
 
 pub loop-frames-preserved : goal.loop-frames-preserved
