@@ -122,7 +122,6 @@ impl<'d, J: Disk> Journal<'d, J> {
 
     /// Makes room for a payload of so many bytes, so that an append of it takes no memory.
     pub fn reserve(&mut self, payload: usize) -> Result<(), NoMemory>
-        requires short { payload ≤ 16777216 }
         ensures reserved { OnOk result (payload + 5 ≤ vec_capacity self.new.buffer) }
         ensures kept { vec_capacity self.old.buffer ≤ vec_capacity self.new.buffer }
         ensures disk { self.new.disk.now ≡ self.old.disk.now }
@@ -130,8 +129,11 @@ impl<'d, J: Disk> Journal<'d, J> {
         ensures torn { self.new.torn ≡ self.old.torn }
         ensures same { self.new.disk.ghost_name ≡ self.old.disk.ghost_name }
     {
+        let Some(size) = payload.checked_add(5) else {
+            return Err(NoMemory);
+        };
         self.buffer.clear();
-        Ok(self.buffer.reserve(payload + 5)?)
+        Ok(self.buffer.reserve(size)?)
     }
 
     /// Adds a payload of 1 to 16,777,216 bytes behind the others and says where its gate is. A torn

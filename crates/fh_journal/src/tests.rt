@@ -1,5 +1,3 @@
-ghost use Rattle.std.specs.Prelude.{◌≤◌, length};
-
 use super::*;
 use fh_base::{Failing, FaultPlan};
 use fh_disk::{Call, Disk, MemoryDisk};
@@ -23,12 +21,10 @@ fn disk_of(rt: &HostRuntime, bytes: &[u8], passed: u64) -> Result<MemoryDisk, Fa
 fn append<J: Disk>(
     journal: &mut Journal<J>,
     payload: &[u8],
-) -> Result<Result<u64, AppendFault>, Fail>
-    requires { length payload.now ≤ 100 }
-{
+) -> Result<Result<u64, AppendFault>, Fail> {
     journal.reserve(payload.len())?;
     match journal.room(payload.len() as u64) {
-        None if !payload.is_empty() => Ok(journal.append(payload)),
+        None if !payload.is_empty() && payload.len() < 100 => Ok(journal.append(payload)),
         _ => Err(Fail::from("no room")),
     }
 }
