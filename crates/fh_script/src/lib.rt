@@ -11,6 +11,9 @@
 mod answers;
 mod ends;
 mod entries;
+mod faults;
+mod forms;
+mod grammar;
 mod lines;
 mod names;
 mod running;
@@ -19,7 +22,11 @@ mod words;
 
 pub use answers::Answer;
 pub use ends::End;
+pub use faults::LineFault;
+pub use grammar::{Line, read_command};
 pub use running::script;
 
+#[cfg(test)]
+mod grammar_tests;
 #[cfg(test)]
 mod tests;
