@@ -1,7 +1,7 @@
 -- What a word stands for as a text, by whether its decoded bytes are UTF-8.
-use Rattle.std.proofs.Common.{◌≡◌, ℕ, Bool, true, false, List, [], Ok, Err, refl, ap, ◌∙◌}
+use Rattle.std.proofs.Common.{◌≡◌, ℕ, false, List, Ok, Err, refl}
 use Rattle.std.specs.Prelude.{codes}
-use Rattle.std.specs.Str.{IsUtf8, is_utf8, bytes_eq}
+use Rattle.std.specs.Str.{IsUtf8, bytes_eq}
 use Rattle.percent_encoding.specs.Percent.{percent_decode}
 use Rattle.fh_script.specs.declared.faults.LineFault.TheVariants.{BadText}
 use Rattle.fh_script.specs.Forms.{text_of}

@@ -16,7 +16,7 @@ use std::borrow::CowStr;
 const MOST_DIGITS: usize = 15;
 
 /// A week, in seconds.
-const WEEK: u64 = 604_800;
+const DEFAULT_TTL: u64 = 604_800;
 
 /// A number: 1 to 15 decimal digits.
 #[tactic(auto, unfolding(crate::specs::Forms::number_of))]
@@ -66,7 +66,7 @@ pub(crate) fn lifetime(word: &str) -> Result<Option<u64>, LineFault>
     if word == "-1" {
         return Ok(None);
     }
-    let seconds = number_or(word, WEEK)?;
+    let seconds = number_or(word, DEFAULT_TTL)?;
     Ok(Some(seconds))
 }
 

@@ -22,14 +22,14 @@ pub enum Line {
     Command(Command),
 }
 
-/// The delay of a put, by default, in seconds.
-const AT_ONCE: u64 = 0;
+/// In seconds: a message is visible at once.
+const DEFAULT_DELAY: u64 = 0;
 
-/// How many messages are taken or read, by default.
-const ONE: u64 = 1;
+/// One message.
+const DEFAULT_COUNT: u64 = 1;
 
-/// How long a message is held, by default, in seconds.
-const HOLD: u64 = 30;
+/// In seconds.
+const DEFAULT_HOLD: u64 = 30;
 
 /// Reads the bytes of a line, with or without its line feed.
 #[tactic(auto, unfolding(crate::specs::Grammar::line_of))]
@@ -82,8 +82,9 @@ fn read_queue(alloc: Global, words: &[&str]) -> Result<Line, Stop>
     ensures { Gives result (queue_line (texts words.now)) }
 {
     counted(words, 1)?;
-    let queue = text(alloc, word(words, 0))?;
-    Ok(Line::Command(Command::MakeQueue { queue }))
+    Ok(Line::Command(Command::MakeQueue {
+        queue: text(alloc, word(words, 0))?,
+    }))
 }
 
 #[tactic(auto, unfolding(crate::specs::Grammar::put_line))]
@@ -91,15 +92,11 @@ fn read_put(alloc: Global, words: &[&str]) -> Result<Line, Stop>
     ensures { Gives result (put_line (texts words.now)) }
 {
     counted(words, 4)?;
-    let queue = text(alloc, word(words, 0))?;
-    let delay = number_or(word(words, 1), AT_ONCE)?;
-    let ttl = lifetime(word(words, 2))?;
-    let text = text(alloc, word(words, 3))?;
     Ok(Line::Command(Command::Put {
-        queue,
-        delay,
-        ttl,
-        text,
+        queue: text(alloc, word(words, 0))?,
+        delay: number_or(word(words, 1), DEFAULT_DELAY)?,
+        ttl: lifetime(word(words, 2))?,
+        text: text(alloc, word(words, 3))?,
     }))
 }
 
@@ -108,10 +105,11 @@ fn read_take(alloc: Global, words: &[&str]) -> Result<Line, Stop>
     ensures { Gives result (take_line (texts words.now)) }
 {
     counted(words, 3)?;
-    let queue = text(alloc, word(words, 0))?;
-    let count = number_or(word(words, 1), ONE)?;
-    let hold = number_or(word(words, 2), HOLD)?;
-    Ok(Line::Command(Command::Take { queue, count, hold }))
+    Ok(Line::Command(Command::Take {
+        queue: text(alloc, word(words, 0))?,
+        count: number_or(word(words, 1), DEFAULT_COUNT)?,
+        hold: number_or(word(words, 2), DEFAULT_HOLD)?,
+    }))
 }
 
 #[tactic(auto, unfolding(crate::specs::Grammar::peek_line))]
@@ -119,9 +117,10 @@ fn read_peek(alloc: Global, words: &[&str]) -> Result<Line, Stop>
     ensures { Gives result (peek_line (texts words.now)) }
 {
     counted(words, 2)?;
-    let queue = text(alloc, word(words, 0))?;
-    let count = number_or(word(words, 1), ONE)?;
-    Ok(Line::Command(Command::Peek { queue, count }))
+    Ok(Line::Command(Command::Peek {
+        queue: text(alloc, word(words, 0))?,
+        count: number_or(word(words, 1), DEFAULT_COUNT)?,
+    }))
 }
 
 #[tactic(auto, unfolding(crate::specs::Grammar::update_line))]
@@ -132,21 +131,16 @@ fn read_update(alloc: Global, words: &[&str]) -> Result<Line, Stop>
     if !has_text {
         counted(words, 4)?;
     }
-    let queue = text(alloc, word(words, 0))?;
-    let message = number(word(words, 1))?;
-    let receipt = number(word(words, 2))?;
-    let hold = number_or(word(words, 3), HOLD)?;
-    let text = if has_text {
-        Some(text(alloc, word(words, 4))?)
-    } else {
-        None
-    };
     Ok(Line::Command(Command::Update {
-        queue,
-        number: message,
-        receipt,
-        hold,
-        text,
+        queue: text(alloc, word(words, 0))?,
+        number: number(word(words, 1))?,
+        receipt: number(word(words, 2))?,
+        hold: number_or(word(words, 3), DEFAULT_HOLD)?,
+        text: if has_text {
+            Some(text(alloc, word(words, 4))?)
+        } else {
+            None
+        },
     }))
 }
 
@@ -155,13 +149,10 @@ fn read_delete(alloc: Global, words: &[&str]) -> Result<Line, Stop>
     ensures { Gives result (delete_line (texts words.now)) }
 {
     counted(words, 3)?;
-    let queue = text(alloc, word(words, 0))?;
-    let message = number(word(words, 1))?;
-    let receipt = number(word(words, 2))?;
     Ok(Line::Command(Command::Delete {
-        queue,
-        number: message,
-        receipt,
+        queue: text(alloc, word(words, 0))?,
+        number: number(word(words, 1))?,
+        receipt: number(word(words, 2))?,
     }))
 }
 
@@ -170,8 +161,9 @@ fn read_clear(alloc: Global, words: &[&str]) -> Result<Line, Stop>
     ensures { Gives result (clear_line (texts words.now)) }
 {
     counted(words, 1)?;
-    let queue = text(alloc, word(words, 0))?;
-    Ok(Line::Command(Command::Clear { queue }))
+    Ok(Line::Command(Command::Clear {
+        queue: text(alloc, word(words, 0))?,
+    }))
 }
 
 #[tactic(auto, unfolding(crate::specs::Grammar::where_line))]
@@ -179,8 +171,9 @@ fn read_where(words: &[&str]) -> Result<Line, Stop>
     ensures { Gives result (where_line (texts words.now)) }
 {
     counted(words, 1)?;
-    let number = number(word(words, 0))?;
-    Ok(Line::Command(Command::Locate { number }))
+    Ok(Line::Command(Command::Locate {
+        number: number(word(words, 0))?,
+    }))
 }
 
 // Whether there are so many words.

@@ -6,6 +6,9 @@
 //! line is read, and the journal stands for the entries. A run ends at the end of the source with
 //! status 0, or at its first fault, and each status comes only for its reason (`EndsBy` of
 //! specs/Script.antt). After a disk fault nothing is said of the file yet. The checkpoint is left alone.
+//!
+//! `read_command` reads one line into what it stands for, or its first fault, exactly as `line_of` of
+//! specs/Grammar.antt says.
 #![tactic(auto)]
 
 mod answers;
