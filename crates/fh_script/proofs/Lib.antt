@@ -5,4 +5,5 @@ pub mod Turning
 pub mod LastLines
 pub mod Decoding
 pub mod Numbers
+pub mod Printing
 pub mod Utf8Texts

@@ -34,7 +34,9 @@ unfoldable pub queue_line : List (List ℕ) → Result Line LineFault
 queue_line = read (text ∷ []) (λ queue. Command (MakeQueue queue))
 
 unfoldable pub put_line : List (List ℕ) → Result Line LineFault
-put_line = read (text ∷ number_or 0 ∷ lifetime ∷ text ∷ []) (λ queue delay ttl text. Command (Put queue delay ttl text))
+put_line =
+    read (text ∷ number_or 0 ∷ lifetime ∷ text ∷ [])
+    (λ queue delay ttl text. Command (Put queue delay ttl text))
 
 unfoldable pub take_line : List (List ℕ) → Result Line LineFault
 take_line = read (text ∷ number_or 1 ∷ number_or 30 ∷ []) (λ queue count hold. Command (Take queue count hold))
@@ -46,8 +48,10 @@ peek_line = read (text ∷ number_or 1 ∷ []) (λ queue count. Command (Peek qu
 unfoldable pub update_line : List (List ℕ) → Result Line LineFault
 update_line words =
     if length words == 5
-    then read (text ∷ number ∷ number ∷ number_or 30 ∷ text ∷ []) (λ queue n receipt hold text. Command (Update queue n receipt hold (Some text))) words
-    else read (text ∷ number ∷ number ∷ number_or 30 ∷ []) (λ queue n receipt hold. Command (Update queue n receipt hold None)) words
+    then read (text ∷ number ∷ number ∷ number_or 30 ∷ text ∷ [])
+    (λ queue n receipt hold text. Command (Update queue n receipt hold (Some text))) words
+    else read (text ∷ number ∷ number ∷ number_or 30 ∷ [])
+    (λ queue n receipt hold. Command (Update queue n receipt hold None)) words
 
 unfoldable pub delete_line : List (List ℕ) → Result Line LineFault
 delete_line = read (text ∷ number ∷ number ∷ []) (λ queue n receipt. Command (Delete queue n receipt))

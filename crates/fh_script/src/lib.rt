@@ -8,7 +8,8 @@
 //! specs/Script.antt). After a disk fault nothing is said of the file yet. The checkpoint is left alone.
 //!
 //! `read_command` reads one line into what it stands for, or its first fault, exactly as `line_of` of
-//! specs/Grammar.antt says.
+//! specs/Grammar.antt says. A text that an answer prints is one word of a line and is read as the same text
+//! (`printed_texts_are_read`).
 #![tactic(auto)]
 
 mod answers;
@@ -17,6 +18,7 @@ mod entries;
 mod faults;
 mod forms;
 mod grammar;
+mod laws;
 mod lines;
 mod names;
 mod running;
@@ -27,6 +29,7 @@ pub use answers::Answer;
 pub use ends::End;
 pub use faults::LineFault;
 pub use grammar::{Line, read_command};
+pub use laws::printed_texts_are_read;
 pub use running::script;
 
 #[cfg(test)]
