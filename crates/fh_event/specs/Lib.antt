@@ -4,3 +4,4 @@ pub mod Entries
 pub mod Answers
 pub mod Reading
 pub mod Lines
+pub mod Faults

@@ -40,6 +40,20 @@ impl From<NoMemory> for StepFault {
     }
 }
 
+impl From<PlanFault> for StepFault {
+    ghost use Rattle.std.specs.Prelude.{◌≡◌};
+    ghost use Rattle.fh_event.specs.Faults.{step_fault_of};
+
+    ghost from_gives = { λ planned fault. fault ≡ step_fault_of planned };
+
+    fn from(planned: PlanFault) -> StepFault {
+        match planned {
+            PlanFault::Rule(rule) => StepFault::Rule(rule),
+            PlanFault::NoMemory => StepFault::NoMemory,
+        }
+    }
+}
+
 /// Why bytes are no entry: the first fault from the left. Field 0 is the moment with the kind, and field 1
 /// the first field of the command.
 #[derive(Clone, Copy, Debug, PartialEq, Eq)]

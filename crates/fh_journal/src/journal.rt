@@ -115,9 +115,7 @@ impl<'d, J: Disk> Journal<'d, J> {
     pub fn room(&self, payload: u64) -> Option<u64>
         ensures { result ≡ (if nat_lt 1073741824 (self.now.gate + 6 + payload) then Some self.now.gate else None) }
     {
-        let gate = self.gate;
-        let fits = payload <= GREATEST - AROUND && gate <= GREATEST - AROUND - payload;
-        if fits { None } else { Some(gate) }
+        room_behind(self.gate, payload)
     }
 
     /// Makes room for a payload of so many bytes, so that an append of it takes no memory.
@@ -223,4 +221,13 @@ fn put_frame(buffer: &mut Vec<u8>, payload: &[u8])
     buffer.extend_from_slice(&size).unwrap();
     buffer.extend_from_slice(payload).unwrap();
     buffer.push_reserved(CLOSED);
+}
+
+/// The place of a gate, where a payload of so many bytes behind it would make a file too long. Takes no
+/// memory.
+pub fn room_behind(gate: u64, payload: u64) -> Option<u64>
+    ensures { result ≡ (if nat_lt 1073741824 (gate + 6 + payload) then Some gate else None) }
+{
+    let fits = payload <= GREATEST - AROUND && gate <= GREATEST - AROUND - payload;
+    if fits { None } else { Some(gate) }
 }

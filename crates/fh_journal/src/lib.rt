@@ -21,7 +21,7 @@ mod writing;
 
 pub use faults::{AppendFault, FrameRule, MountFault};
 pub use frames::{Frame, Frames, Payload};
-pub use journal::Journal;
+pub use journal::{Journal, room_behind};
 pub use laws::files_have_one_reading;
 pub use mounting::{Prepared, prepare};
 

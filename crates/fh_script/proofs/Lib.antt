@@ -3,3 +3,7 @@ pub mod Recording
 pub mod Turns
 pub mod Turning
 pub mod LastLines
+pub mod Decoding
+pub mod Numbers
+pub mod Printing
+pub mod Utf8Texts

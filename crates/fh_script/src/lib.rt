@@ -6,11 +6,19 @@
 //! line is read, and the journal stands for the entries. A run ends at the end of the source with
 //! status 0, or at its first fault, and each status comes only for its reason (`EndsBy` of
 //! specs/Script.antt). After a disk fault nothing is said of the file yet. The checkpoint is left alone.
+//!
+//! `read_command` reads one line into what it stands for, or its first fault, exactly as `line_of` of
+//! specs/Grammar.antt says. A text that an answer prints is one word of a line and is read as the same text
+//! (`printed_texts_are_read`).
 #![tactic(auto)]
 
 mod answers;
 mod ends;
 mod entries;
+mod faults;
+mod forms;
+mod grammar;
+mod laws;
 mod lines;
 mod names;
 mod running;
@@ -19,7 +27,12 @@ mod words;
 
 pub use answers::Answer;
 pub use ends::End;
+pub use faults::LineFault;
+pub use grammar::{Line, read_command};
+pub use laws::printed_texts_are_read;
 pub use running::script;
 
+#[cfg(test)]
+mod grammar_tests;
 #[cfg(test)]
 mod tests;

@@ -1,0 +1,6 @@
+pub mod Sizes
+pub mod Crashes
+pub mod Narrow
+pub mod Recording
+pub mod Replays
+pub mod Spelling

@@ -1,0 +1,56 @@
+-- What a hub's step answers, and what it does to the journal.
+use Rattle.std.specs.Prelude.{◌≡◌, ◌⊎◌, ⊤, ℕ, Bool, true, false, List, [], ◌∷◌, ◌++◌, Option, Result, Ok, Err}
+use Rattle.fh_base.specs.Faults.{Rose}
+use Rattle.fh_base.specs.declared.rule.Rule.{Rule}
+use Rattle.fh_event.specs.declared.faults.PlanFault.{PlanFault}
+use Rattle.fh_event.specs.declared.faults.StepFault.{StepFault}
+use Rattle.fh_event.specs.declared.faults.StepFault.TheVariants.{Rule as OfRule, NoMemory, DiskFault}
+use Rattle.fh_event.specs.declared.reply.Reply.{Reply}
+use Rattle.fh_journal.specs.Journal.{IsJournalOf}
+use Rattle.fh_journal.specs.Keeping.{Keeps}
+use Rattle.fh_hub.specs.World.{Stepped, Refused, Read, Quieted, Recorded}
+use Rattle.fh_hub.specs.Replay.{Entry, bytes_of, payloads_of, IsLegal}
+
+-- the machine's answer: a reply or a rule
+abbrev pub answer : Stepped → Result Reply Rule
+answer (Refused rule) = Err rule
+answer (Read reply) = Ok reply
+answer (Quieted reply) = Ok reply
+answer (Recorded new reply) = Ok reply
+
+abbrev pub is_recorded : Stepped → Bool
+is_recorded (Refused rule) = false
+is_recorded (Read reply) = false
+is_recorded (Quieted reply) = false
+is_recorded (Recorded new reply) = true
+
+-- The result is the machine's answer, or want of memory, or a fault of the disk, whose count then rose in a step that
+-- would have been recorded.
+abbrev pub Answers : Result Reply StepFault → Stepped → ℕ → ℕ → Type 0
+Answers (Ok reply) stepped before now = answer stepped ≡ Ok reply
+Answers (Err (OfRule rule)) stepped before now = stepped ≡ Refused rule
+Answers (Err NoMemory) stepped before now = ⊤
+Answers (Err DiskFault) stepped before now = (is_recorded stepped ≡ true) × Rose before now
+
+-- no rule refuses what was planned
+abbrev pub HasStepCause : ℕ → ℕ → StepFault → Type 0
+HasStepCause before now (OfRule rule) = ⊥
+HasStepCause before now NoMemory = ⊤
+HasStepCause before now DiskFault = Rose before now
+
+-- the file stands for this history
+abbrev pub StandsForHistory : List Entry → List ℕ → Type 0
+StandsForHistory history file = IsJournalOf file (payloads_of history)
+
+-- where the bytes are told, they and each image stand for this history, or where the journal is torn also for the
+-- legal one that has the failed entry behind it
+pub record KeepsHistory (told : Option (List ℕ)) (images : List ℕ → Type 0) (torn : Bool) (history : List Entry) (failed : Entry) (gate : ℕ) : Type 0 where
+  pub keeps : Keeps told images torn (payloads_of history) (bytes_of failed) gate
+  pub legal : torn ≡ true → IsLegal (history ++ failed ∷ [])
+
+-- what a crash during a step may be read as: the history from before, the one with the step's entries, or, where the
+-- journal was torn, the one with the entry that had failed
+abbrev pub MayStandFor : Bool → List Entry → Entry → List Entry → List ℕ → Type 0
+MayStandFor torn history failed entries file =
+    StandsForHistory history file ⊎ StandsForHistory (history ++ entries) file
+    ⊎ ((torn ≡ true) × StandsForHistory (history ++ failed ∷ []) file)

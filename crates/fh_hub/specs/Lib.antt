@@ -1,0 +1,7 @@
+pub mod World
+pub mod Asking
+pub mod Replay
+pub mod History
+pub mod State
+pub mod Plans
+pub mod Hub

@@ -1,0 +1,141 @@
+// What a command asks of the queues, or what is answered at once.
+ghost use Rattle.std.specs.Prelude.{◌≡◌, IfOk, None, option_map};
+ghost use Rattle.fh_event.specs.declared.command.Command.TheVariants.{MakeQueue, Put, Take, Update, Delete, Clear, Peek};
+ghost use Rattle.fh_hub.specs.World.{Asks, where_named, peeking, asked};
+ghost use Rattle.fh_hub.specs.Asking.{asked_of};
+ghost use Rattle.fh_queues.specs.Edits.{QueueState};
+ghost use Rattle.fh_queues.specs.Outcome.{peeked};
+ghost use Rattle.fh_queues.specs.Asks as asks;
+
+use fh_base::{Moment, NoMemory, QueueName, Rule};
+use fh_event::{Command, PlanFault, Reply, Text};
+use fh_queues::{QueueAsk, Queues};
+use std::alloc::Global;
+
+/// What a command asks of the queues, or what is answered at once.
+#[derive(Drop)]
+pub(crate) enum Asked<'a> {
+    Refuses(Rule),
+    Reads(Reply),
+    Asks(QueueAsk<'a>),
+}
+
+impl<'a> Asked<'a> {
+    /// What a command asks at a moment.
+    #[tactic(auto, unfolding(crate::specs::World::asked))]
+    pub(crate) fn of(alloc: Global, queues: &Queues, command: &'a Command, m: Moment) -> Result<Asked<'a>, NoMemory>
+        ensures { IfOk result (λ a. asked_of a ≡ asked queues.now.part command.entry.now m) }
+    {
+        match command {
+            Command::MakeQueue { queue } => Ok(Asked::make(queue)),
+            Command::Put {
+                queue,
+                delay,
+                ttl,
+                text,
+            } => Ok(Asked::put(queue, *delay, *ttl, text)),
+            Command::Take { queue, count, hold } => Ok(Asked::take(queue, *count, *hold)),
+            Command::Update {
+                queue,
+                number,
+                receipt,
+                hold,
+                text,
+            } => Ok(Asked::update(queue, *number, *receipt, *hold, text.as_ref())),
+            Command::Delete {
+                queue,
+                number,
+                receipt,
+            } => Ok(Asked::delete(queue, *number, *receipt)),
+            Command::Clear { queue } => Ok(Asked::clear(queue)),
+            Command::Peek { queue, count } => Asked::peek(alloc, queues, queue, *count, m),
+            Command::Locate { number } => {
+                let place = queues.place_of(*number, m);
+                Ok(Asked::Reads(Reply::Located { place }))
+            }
+        }
+    }
+
+    fn make(queue: &Text) -> Asked<'a>
+        ensures { asked_of result ≡ where_named queue.now (Asks (asks.Make queue.now)) }
+    {
+        match QueueName::read(queue.as_str()) {
+            None => Asked::Refuses(Rule::BadName),
+            Some(queue) => Asked::Asks(QueueAsk::Make { queue }),
+        }
+    }
+
+    fn put(queue: &Text, delay: u64, ttl: Option<u64>, text: &'a Text) -> Asked<'a>
+        ensures { asked_of result ≡ where_named queue.now (Asks (asks.Put queue.now delay ttl text.entry.now None)) }
+    {
+        match QueueName::read(queue.as_str()) {
+            None => Asked::Refuses(Rule::BadName),
+            Some(queue) => Asked::Asks(QueueAsk::Put {
+                queue,
+                delay,
+                ttl,
+                text,
+                about: None,
+            }),
+        }
+    }
+
+    fn take(queue: &Text, count: u64, hold: u64) -> Asked<'a>
+        ensures { asked_of result ≡ where_named queue.now (Asks (asks.Take queue.now count hold)) }
+    {
+        match QueueName::read(queue.as_str()) {
+            None => Asked::Refuses(Rule::BadName),
+            Some(queue) => Asked::Asks(QueueAsk::Take { queue, count, hold }),
+        }
+    }
+
+    fn update(queue: &Text, number: u64, receipt: u64, hold: u64, text: Option<&'a Text>) -> Asked<'a>
+        ensures { asked_of result ≡ where_named queue.now (Asks (asks.Update queue.now number receipt hold (option_map (λ t. t.now) text.entry))) }
+    {
+        match QueueName::read(queue.as_str()) {
+            None => Asked::Refuses(Rule::BadName),
+            Some(queue) => Asked::Asks(QueueAsk::Update {
+                queue,
+                number,
+                receipt,
+                hold,
+                text,
+            }),
+        }
+    }
+
+    fn delete(queue: &Text, number: u64, receipt: u64) -> Asked<'a>
+        ensures { asked_of result ≡ where_named queue.now (Asks (asks.Delete queue.now number receipt)) }
+    {
+        match QueueName::read(queue.as_str()) {
+            None => Asked::Refuses(Rule::BadName),
+            Some(queue) => Asked::Asks(QueueAsk::Delete {
+                queue,
+                number,
+                receipt,
+            }),
+        }
+    }
+
+    fn clear(queue: &Text) -> Asked<'a>
+        ensures { asked_of result ≡ where_named queue.now (Asks (asks.Clear queue.now)) }
+    {
+        match QueueName::read(queue.as_str()) {
+            None => Asked::Refuses(Rule::BadName),
+            Some(queue) => Asked::Asks(QueueAsk::Clear { queue }),
+        }
+    }
+
+    fn peek(alloc: Global, queues: &Queues, queue: &Text, count: u64, m: Moment) -> Result<Asked<'a>, NoMemory>
+        ensures { IfOk result (λ a. asked_of a ≡ where_named queue.now (peeking (peeked queues.now.part queue.now count m))) }
+    {
+        let Some(queue) = QueueName::read(queue.as_str()) else {
+            return Ok(Asked::Refuses(Rule::BadName));
+        };
+        match queues.peek(alloc, &queue, count, m) {
+            Ok(items) => Ok(Asked::Reads(Reply::Peeked { items })),
+            Err(PlanFault::Rule(rule)) => Ok(Asked::Refuses(rule)),
+            Err(PlanFault::NoMemory) => Err(NoMemory),
+        }
+    }
+}

@@ -1,0 +1,104 @@
+// The hub over a journal.
+ghost use Rattle.std.specs.Prelude.{◌≡◌, ◌⊎◌, ◌≤◌, ◌∷◌, ◌++◌, [], true, false, IfOk, IfErr, OnOk, OnErr, IfSome};
+ghost use Rattle.fh_base.specs.Faults.{Rose};
+ghost use Rattle.fh_disk.specs.Disk.{OnlyTold};
+ghost use Rattle.fh_disk.specs.Moments.{LeavesOnly};
+ghost use Rattle.fh_queues.specs.Edits.{planned as planned_queues};
+ghost use Rattle.fh_hub.specs.World.{Recorded, step};
+ghost use Rattle.fh_hub.specs.Replay.{Entry, world_after, noted};
+ghost use Rattle.fh_hub.specs.State.{world_of, IsIdle, IsPlanned, IsUnchanged};
+ghost use Rattle.fh_hub.specs.Plans.{entry_at};
+ghost use Rattle.fh_hub.specs.Hub.{Answers, HasStepCause, KeepsHistory, MayStandFor, is_recorded};
+
+use crate::plan::{Change, Plan};
+use crate::state::State;
+use fh_disk::Disk;
+use fh_event::{Command, Reply, StepFault};
+use fh_journal::Journal;
+use std::alloc::Global;
+
+/// A hub: what it keeps in memory, and the journal over a disk that is lent.
+#[derive(Drop)]
+pub struct Hub<'d, J: Disk> {
+    pub journal: Journal<'d, J>,
+    pub state: State,
+    pub ghost idle: { IsIdle state },
+    pub ghost gates: { journal.gate ≡ state.gate },
+}
+
+impl<'d, J: Disk> Hub<'d, J> {
+    /// Gives the disk back.
+    pub fn close(self) -> &'d mut J
+        ensures same { result.ghost_name ≡ self.entry.journal.disk.ghost_name }
+        ensures disk { result.now ≡ self.entry.journal.disk.now }
+    {
+        let journal = self.journal;
+        journal.close()
+    }
+
+    /// Makes one step at a moment in milliseconds. All memory is taken before the first call on the disk; a
+    /// step that isn't recorded makes none. After any fault the world and the history are as before.
+    pub fn step(&mut self, alloc: Global, command: &Command, now: u64) -> Result<Reply, StepFault>
+        ensures answers { Answers result (step (world_of self.old.state) command.now now)
+            (J.disk_faults self.old.journal.disk.now) (J.disk_faults self.new.journal.disk.now) }
+        ensures world { OnOk result (world_of self.new.state
+            ≡ world_after (world_of self.old.state) (step (world_of self.old.state) command.now now)) }
+        ensures history { OnOk result (self.new.state.history ≡ self.old.state.history ++ noted (world_of self.old.state) command.now now) }
+        ensures fault { OnErr result (IsUnchanged self.old.state self.new.state) }
+        ensures untouched { is_recorded (step (world_of self.old.state) command.now now) ≡ false
+            → (self.new.journal.disk.now ≡ self.old.journal.disk.now) × (self.new.journal.torn ≡ self.old.journal.torn) }
+        ensures keeps { (failed : Entry)
+            → KeepsHistory (J.told self.old.journal.disk.now) (J.may_leave self.old.journal.disk.now) self.old.journal.torn self.old.state.history failed self.old.journal.gate
+            → KeepsHistory (J.told self.new.journal.disk.now) (J.may_leave self.new.journal.disk.now) self.new.journal.torn self.new.state.history failed self.new.journal.gate
+            ⊎ KeepsHistory (J.told self.new.journal.disk.now) (J.may_leave self.new.journal.disk.now) self.new.journal.torn self.new.state.history (entry_at self.old.state command.now now) self.new.journal.gate }
+        ensures durable { is_recorded (step (world_of self.old.state) command.now now) ≡ true
+            → OnOk result (OnlyTold (J.told self.new.journal.disk.now) (J.may_leave self.new.journal.disk.now)) }
+        ensures any_moment { (failed : Entry)
+            → KeepsHistory (J.told self.old.journal.disk.now) (J.may_leave self.old.journal.disk.now) self.old.journal.torn self.old.state.history failed self.old.journal.gate
+            → IfSome (J.told self.old.journal.disk.now) (λ _. LeavesOnly J.moment J.left_since self.old.journal.disk.now self.new.journal.disk.now
+                (MayStandFor self.old.journal.torn self.old.state.history failed (noted (world_of self.old.state) command.now now))) }
+        ensures count { J.disk_faults self.old.journal.disk.now ≤ J.disk_faults self.new.journal.disk.now }
+        ensures same { self.new.journal.disk.ghost_name ≡ self.old.journal.disk.ghost_name }
+    {
+        match self.state.plan(alloc, command, now)? {
+            Plan::Reads(reply) | Plan::Quiet(reply) => Ok(reply),
+            Plan::Records(change) => self.record(change),
+        }
+    }
+
+    // Records a change: it is staged, its entry is appended, and then it is settled.
+    fn record(&mut self, change: Change) -> Result<Reply, StepFault>
+        ghost e: { Entry }
+        requires planned { IsPlanned self.old.state (planned_queues self.old.state.queues.part change.queues) change.payload e }
+        requires moment { change.moment ≡ e.moment }
+        ensures reply { IfOk result (λ reply. step (world_of self.old.state) e.command e.moment ≡ Recorded (world_of self.new.state) reply) }
+        ensures history { OnOk result (self.new.state.history ≡ self.old.state.history ++ e ∷ []) }
+        ensures fault { OnErr result (IsUnchanged self.old.state self.new.state) }
+        ensures cause { IfErr result (HasStepCause (J.disk_faults self.old.journal.disk.now) (J.disk_faults self.new.journal.disk.now)) }
+        ensures keeps { (failed : Entry)
+            → KeepsHistory (J.told self.old.journal.disk.now) (J.may_leave self.old.journal.disk.now) self.old.journal.torn self.old.state.history failed self.old.journal.gate
+            → KeepsHistory (J.told self.new.journal.disk.now) (J.may_leave self.new.journal.disk.now) self.new.journal.torn self.new.state.history failed self.new.journal.gate
+            ⊎ KeepsHistory (J.told self.new.journal.disk.now) (J.may_leave self.new.journal.disk.now) self.new.journal.torn self.new.state.history e self.new.journal.gate }
+        ensures durable { OnOk result (OnlyTold (J.told self.new.journal.disk.now) (J.may_leave self.new.journal.disk.now)) }
+        ensures any_moment { (failed : Entry)
+            → KeepsHistory (J.told self.old.journal.disk.now) (J.may_leave self.old.journal.disk.now) self.old.journal.torn self.old.state.history failed self.old.journal.gate
+            → IfSome (J.told self.old.journal.disk.now) (λ _. LeavesOnly J.moment J.left_since self.old.journal.disk.now self.new.journal.disk.now
+                (MayStandFor self.old.journal.torn self.old.state.history failed (e ∷ []))) }
+        ensures count { J.disk_faults self.old.journal.disk.now ≤ J.disk_faults self.new.journal.disk.now }
+        ensures same { self.new.journal.disk.ghost_name ≡ self.old.journal.disk.ghost_name }
+    {
+        let staged = self.state.stage(change)?;
+        let payload = staged.payload.as_slice();
+        if self.journal.reserve(payload.len()).is_err() {
+            self.state.unstage(staged);
+            return Err(StepFault::NoMemory);
+        }
+        match self.journal.append(payload) {
+            Ok(_) => Ok(self.state.settle(staged)),
+            Err(_) => {
+                self.state.unstage(staged);
+                Err(StepFault::DiskFault)
+            }
+        }
+    }
+}

@@ -1,0 +1,227 @@
+// What a hub keeps in memory.
+ghost use Rattle.std.specs.Prelude.{◌≡◌, ◌+◌, ◌≤◌, ◌∷◌, ◌++◌, [], max, length, IfOk, IfErr, OnOk, OnErr};
+ghost use Rattle.fh_base.specs.Moments.{greatest_moment};
+ghost use Rattle.fh_event.specs.Entries.{entry, IsEntry, HasShortTexts};
+ghost use Rattle.fh_queues.specs.Asks.{ask_of};
+ghost use Rattle.fh_queues.specs.Edits.{planned as planned_queues};
+ghost use Rattle.fh_queues.specs.Outcome.{outcome};
+ghost use Rattle.fh_queues.specs.Places.{place_of};
+ghost use Rattle.fh_hub.specs.World.{Recorded, Asks, asked, empty, joined, step, step_at, reply_of, effective_moment};
+ghost use Rattle.fh_hub.specs.Replay.{Entry, IsLegal};
+ghost use Rattle.fh_hub.specs.State.{world_of, IsIdle, IsPlanned, IsUnchanged, IsFaithful};
+ghost use Rattle.fh_hub.specs.Plans.{entry_at, IsPlanFor, IsFaultOfStep, IsStaged};
+
+use crate::asking::Asked;
+use crate::history::History;
+use crate::plan::{Change, Plan, Staged};
+use fh_base::{Moment, NoMemory, Rule};
+use fh_event::{Command, Place, PlanFault, Reply, encode};
+use fh_journal::{Payload, room_behind};
+use fh_queues::{QueueAsk, QueueDone, Queues};
+use std::alloc::Global;
+use std::marker::Model;
+
+/// The place of the first gate.
+const FIRST_GATE: u64 = 6;
+
+/// What a frame has beside its payload: a gate and a length.
+const AROUND: u64 = 5;
+
+/// The stores, the last moment, the place of the journal's next gate, and the history.
+#[derive(Drop)]
+pub struct State {
+    queues: Queues,
+    last: u64,
+    gate: u64,
+    history: History,
+}
+
+impl Model for State {
+    ghost use Rattle.fh_hub.specs.State.{HubState, IsFaithful};
+
+    ghost Value = { HubState };
+
+    ghost view = { λ s. record { queues = s.queues; last = s.last; gate = s.gate; history = s.history.entries; room = s.history.room } };
+
+    ghost invariant = { λ s. IsFaithful (record { queues = s.queues; last = s.last; gate = s.gate; history = s.history.entries; room = s.history.room }) };
+}
+
+impl State {
+    /// Nothing yet. Takes no memory.
+    pub fn new(alloc: Global) -> State
+        ensures history { result.history ≡ [] }
+        ensures world { world_of result ≡ empty }
+        ensures idle { IsIdle result }
+    {
+        State {
+            queues: Queues::new(alloc),
+            last: 0,
+            gate: FIRST_GATE,
+            history: History::new(alloc),
+        }
+    }
+
+    /// The history, of which the world is the replay.
+    pub fn history(&self) -> &History
+        ensures entries { result.now.entries ≡ self.now.history }
+        ensures faithful { IsFaithful self.now }
+    {
+        &self.history
+    }
+
+    /// Where a message is at the effective moment.
+    pub fn place_of(&self, number: u64, now: Moment) -> Place
+        ensures { result ≡ place_of self.now.queues.part number (effective_moment (world_of self.now) now) }
+    {
+        self.queues.place_of(number, effective(now, self.last))
+    }
+
+    /// What a command comes to at the moment that is handed in, in milliseconds.
+    #[tactic(auto, unfolding(crate::specs::World::step))]
+    pub fn plan(&self, alloc: Global, command: &Command, now: u64) -> Result<Plan, PlanFault>
+        requires { IsIdle self.now }
+        ensures ok { IfOk result (IsPlanFor self.now (step (world_of self.now) command.now now) (entry_at self.now command.now now)) }
+        ensures err { IfErr result (λ fault. IsFaultOfStep fault (step (world_of self.now) command.now now)) }
+    {
+        let Some(now) = Moment::new(now) else {
+            return Err(PlanFault::Rule(Rule::MomentTooLate));
+        };
+        self.plan_at(alloc, command, effective(now, self.last))
+    }
+
+    // What a command comes to that acts at this moment.
+    #[tactic(auto, unfolding(crate::specs::World::step_at))]
+    fn plan_at(&self, alloc: Global, command: &Command, m: Moment) -> Result<Plan, PlanFault>
+        requires idle { IsIdle self.now }
+        requires own_moment { self.now.last ≤ m }
+        ensures ok { IfOk result (IsPlanFor self.now (step_at (world_of self.now) command.now m) (record { command = command.now; moment = m })) }
+        ensures err { IfErr result (λ fault. IsFaultOfStep fault (step_at (world_of self.now) command.now m)) }
+    {
+        match Asked::of(alloc, &self.queues, command, m)? {
+            Asked::Refuses(rule) => Err(PlanFault::Rule(rule)),
+            Asked::Reads(reply) => Ok(Plan::Reads(reply)),
+            Asked::Asks(ask) => self.plan_ask(alloc, command, &ask, m),
+        }
+    }
+
+    fn plan_ask(&self, alloc: Global, command: &Command, ask: &QueueAsk<'_>, m: Moment) -> Result<Plan, PlanFault>
+        requires idle { IsIdle self.now }
+        requires own_moment { self.now.last ≤ m }
+        requires asks { asked self.now.queues.part command.now m ≡ Asks (ask_of ask.now) }
+        ensures ok { IfOk result (IsPlanFor self.now (joined (world_of self.now) m (length (entry m command.now)) (outcome self.now.queues.part (ask_of ask.now) m)) (record { command = command.now; moment = m })) }
+        ensures err { IfErr result (λ fault. IsFaultOfStep fault (joined (world_of self.now) m (length (entry m command.now)) (outcome self.now.queues.part (ask_of ask.now) m))) }
+    {
+        let queues = self.queues.plan(alloc, ask, m)?;
+        if let Some(done) = queues.quiet() {
+            return Ok(Plan::Quiet(reply_of(done)));
+        }
+        let payload = payload_of(alloc, command, m)?;
+        if let Some(length) = room_behind(self.gate, payload.as_slice().len() as u64) {
+            return Err(PlanFault::Rule(Rule::JournalFull { length }));
+        }
+        Ok(Plan::Records(Change {
+            queues,
+            payload,
+            moment: m,
+        }))
+    }
+
+    /// Takes all the memory of a change.
+    pub fn stage(&mut self, change: Change) -> Result<Staged, NoMemory>
+        ghost e: { Entry }
+        requires idle { IsIdle self.old }
+        requires planned { IsPlanned self.old (planned_queues self.old.queues.part change.queues) change.payload e }
+        requires moment { change.moment ≡ e.moment }
+        ensures same { IsUnchanged self.old self.new }
+        ensures err { OnErr result (IsIdle self.new) }
+        ensures ok { IfOk result (λ staged. IsStaged self.new staged e × (staged.payload ≡ change.payload)) }
+        ensures legal { OnOk result (IsLegal (self.old.history ++ e ∷ [])) }
+        ensures gate { self.new.gate ≡ self.old.gate }
+    {
+        let Change {
+            queues,
+            payload,
+            moment,
+        } = change;
+        self.history.reserve()?;
+        let queues = self.queues.stage(queues)?;
+        Ok(Staged {
+            queues,
+            payload,
+            moment,
+        })
+    }
+
+    /// Makes a staged change. Takes no memory.
+    pub fn settle(&mut self, staged: Staged) -> Reply
+        ghost e: { Entry }
+        requires { IsStaged self.old staged e }
+        ensures step { step (world_of self.old) e.command e.moment ≡ Recorded (world_of self.new) result }
+        ensures idle { IsIdle self.new }
+        ensures history { self.new.history ≡ self.old.history ++ e ∷ [] }
+        ensures gate { self.new.gate ≡ self.old.gate + 5 + length staged.payload }
+    {
+        let Staged {
+            queues,
+            payload,
+            moment,
+        } = staged;
+        let done = self.queues.settle(queues);
+        self.last = moment.ms();
+        self.gate += AROUND + payload.as_slice().len() as u64;
+        self.history.add(payload);
+        reply_of(done)
+    }
+
+    /// Lets a staged change go. Takes no memory.
+    pub fn unstage(&mut self, staged: Staged)
+        ghost e: { Entry }
+        requires { IsStaged self.old staged e }
+        ensures same { IsUnchanged self.old self.new }
+        ensures idle { IsIdle self.new }
+        ensures gate { self.new.gate ≡ self.old.gate }
+    {
+        let Staged {
+            queues,
+            payload: _,
+            moment: _,
+        } = staged;
+        self.queues.unstage(queues);
+    }
+}
+
+fn effective(now: Moment, last: u64) -> Moment
+    requires { last ≤ greatest_moment }
+    ensures { result ≡ max now last }
+{
+    if last <= now.ms() {
+        return now;
+    }
+    Moment::new(last).unwrap()
+}
+
+fn reply_of(done: QueueDone) -> Reply
+    ensures { result ≡ reply_of done }
+{
+    match done {
+        QueueDone::Made => Reply::Made,
+        QueueDone::There => Reply::There,
+        QueueDone::Stored { number, receipt } => Reply::Stored { number, receipt },
+        QueueDone::Taken { items } => Reply::Taken { items },
+        QueueDone::Empty => Reply::Empty,
+        QueueDone::Updated { receipt } => Reply::Updated { receipt },
+        QueueDone::Deleted => Reply::Deleted,
+        QueueDone::Cleared { count } => Reply::Cleared { count },
+        QueueDone::Swept => Reply::Empty,
+    }
+}
+
+// The bytes of a command's entry.
+fn payload_of(alloc: Global, command: &Command, m: Moment) -> Result<Payload, NoMemory>
+    requires { HasShortTexts command.now }
+    ensures { IfOk result (λ payload. (payload ≡ entry m command.now) × IsEntry payload m command.now) }
+{
+    let mut bytes = Vec::new(alloc);
+    encode(command, m, &mut bytes)?;
+    Ok(Payload::new(bytes))
+}

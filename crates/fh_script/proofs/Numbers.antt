@@ -1,0 +1,18 @@
+-- That a word of 1 to 15 digits is read as the number that its digits write.
+use Rattle.std.proofs.Common.{◌≡◌, ℕ, ◌<◌, ◌≤◌, true, List, length, Result, Ok, rules, arith}
+use Rattle.std.proofs.lemmas.Bool.Decides.{nat_tests}
+use Rattle.std.specs.Char.{is_ascii_digit}
+use Rattle.std.specs.List.{list_all}
+use Rattle.std.specs.Str.Parse.{ParsesUnsigned, digits_value}
+use Rattle.std.proofs.lemmas.Str.Parse.{IsNumeralModel, numerals_by_value, parse_gives, digits_value_short}
+use Rattle.fh_script.specs.Forms.{is_number}
+
+own : IsNumeralModel (λ word. list_all is_ascii_digit word ≡ true) (digits_value 10)
+own = numerals_by_value _ (search rules)
+
+pub parsed : {E : Type 0} (word : List ℕ) (r : Result ℕ E) → ParsesUnsigned 64 10 word r → is_number word ≡ true → r ≡ Ok (digits_value 10 word)
+parsed word r parses tested =
+    let digits : list_all is_ascii_digit word ≡ true = grind (arith, nat_tests) in
+    let some : 0 < length word = grind (arith, nat_tests) in
+    let few : length word ≤ 15 = grind (arith, nat_tests) in
+    parse_gives own 64 word r parses digits some (omega (arith, digits_value_short own word 15 digits few))

@@ -1,0 +1,182 @@
+use super::*;
+use fh_event::Command;
+use std::test::Fail;
+
+// A line as a test writes it: the variant's name and its fields in order, or the fault.
+fn shown(rt: &HostRuntime, line: &[u8]) -> Result<String, Fail> {
+    let alloc = rt.alloc();
+    let command = match read_command(alloc, line)? {
+        Ok(Line::Blank) => return Ok(String::from_str(alloc, "blank")?),
+        Ok(Line::At { ms }) => return Ok(format!(in alloc; "at {ms}")?),
+        Ok(Line::Command(command)) => command,
+        Err(fault) => return Ok(format!(in alloc; "{fault:?}")?),
+    };
+    let shown = match command {
+        Command::MakeQueue { queue } => format!(in alloc; "MakeQueue [{}]", queue.as_str())?,
+        Command::Put {
+            queue,
+            delay,
+            ttl,
+            text,
+        } => format!(in alloc;
+            "Put [{}] {delay} {ttl:?} [{}]",
+            queue.as_str(),
+            text.as_str()
+        )?,
+        Command::Take { queue, count, hold } => {
+            format!(in alloc; "Take [{}] {count} {hold}", queue.as_str())?
+        }
+        Command::Update {
+            queue,
+            number,
+            receipt,
+            hold,
+            text,
+        } => {
+            let text = text.as_ref().map(|text| text.as_str());
+            format!(in alloc;
+                "Update [{}] {number} {receipt} {hold} {text:?}",
+                queue.as_str()
+            )?
+        }
+        Command::Delete {
+            queue,
+            number,
+            receipt,
+        } => format!(in alloc; "Delete [{}] {number} {receipt}", queue.as_str())?,
+        Command::Clear { queue } => format!(in alloc; "Clear [{}]", queue.as_str())?,
+        Command::Peek { queue, count } => {
+            format!(in alloc; "Peek [{}] {count}", queue.as_str())?
+        }
+        Command::Locate { number } => format!(in alloc; "Locate {number}")?,
+    };
+    Ok(shown)
+}
+
+// The lines of a table that aren't shown as the table says.
+fn expect(rt: &HostRuntime, cases: &[(&[u8], &str)]) -> Result<(), Fail> {
+    for (line, expected) in cases {
+        let found = shown(rt, line)?;
+        if found.as_str() != *expected {
+            return Err(Fail::from(format!(in rt.alloc(); "{found} in place of {expected}")?));
+        }
+    }
+    Ok(())
+}
+
+#[test]
+fn each_verb_has_its_command(rt: HostRuntime) -> Result<(), Fail> {
+    let cases: [(&[u8], &str); 11] = [
+        (b"at 0", "at 0"),
+        (b"at 253402300799999", "at 253402300799999"),
+        (b"queue orders", "MakeQueue [orders]"),
+        (b"put orders 5 60 hi", "Put [orders] 5 Some(60) [hi]"),
+        (b"take orders 2 10", "Take [orders] 2 10"),
+        (b"peek orders 3", "Peek [orders] 3"),
+        (b"update orders 1 2 40", "Update [orders] 1 2 40 None"),
+        (
+            b"update orders 1 2 40 hi",
+            "Update [orders] 1 2 40 Some(\"hi\")",
+        ),
+        (b"delete orders 1 2", "Delete [orders] 1 2"),
+        (b"clear orders", "Clear [orders]"),
+        (b"where 7", "Locate 7"),
+    ];
+    expect(&rt, &cases)
+}
+
+#[test]
+fn a_dash_is_a_default_in_four_places(rt: HostRuntime) -> Result<(), Fail> {
+    let cases: [(&[u8], &str); 10] = [
+        (b"put orders - - a", "Put [orders] 0 Some(604800) [a]"),
+        (b"put orders 0 -1 a", "Put [orders] 0 None [a]"),
+        (b"take orders - -", "Take [orders] 1 30"),
+        (b"peek orders -", "Peek [orders] 1"),
+        (b"update orders 1 2 -", "Update [orders] 1 2 30 None"),
+        (
+            b"update orders 1 2 - -",
+            "Update [orders] 1 2 30 Some(\"-\")",
+        ),
+        (b"update orders - 2 3", "BadNumber"),
+        (b"delete orders 1 -", "BadNumber"),
+        (b"where -", "BadNumber"),
+        (b"at -", "BadNumber"),
+    ];
+    expect(&rt, &cases)
+}
+
+#[test]
+fn a_number_has_1_to_15_digits(rt: HostRuntime) -> Result<(), Fail> {
+    let cases: [(&[u8], &str); 9] = [
+        (b"where 000000000000007", "Locate 7"),
+        (b"where 999999999999999", "Locate 999999999999999"),
+        (b"where 0000000000000007", "BadNumber"),
+        (b"where 1000000000000000", "BadNumber"),
+        (b"where +1", "BadNumber"),
+        (b"where -1", "BadNumber"),
+        (b"where 1a", "BadNumber"),
+        (b"where %31", "BadNumber"),
+        (b"put orders 0 -2 a", "BadNumber"),
+    ];
+    expect(&rt, &cases)
+}
+
+#[test]
+fn a_text_is_decoded(rt: HostRuntime) -> Result<(), Fail> {
+    let cases: [(&[u8], &str); 11] = [
+        (b"queue %", "MakeQueue []"),
+        (b"put % 0 -1 %", "Put [] 0 None []"),
+        (b"queue a%20b", "MakeQueue [a b]"),
+        (b"queue %25", "MakeQueue [%]"),
+        (b"queue %C3%a9", "MakeQueue [\u{e9}]"),
+        (b"queue \xc3\xa9", "MakeQueue [\u{e9}]"),
+        (b"queue a%", "MakeQueue [a%]"),
+        (b"queue %%", "MakeQueue [%%]"),
+        (b"queue %zz", "MakeQueue [%zz]"),
+        (b"queue %2%41", "MakeQueue [%2A]"),
+        (b"queue %C3", "BadText"),
+    ];
+    expect(&rt, &cases)
+}
+
+#[test]
+fn the_first_fault_decides(rt: HostRuntime) -> Result<(), Fail> {
+    let cases: [(&[u8], &str); 17] = [
+        (b"frob", "BadWord"),
+        (b"Queue orders", "BadWord"),
+        (b"%71ueue orders", "BadWord"),
+        (b"queue", "BadCount"),
+        (b"queue a b", "BadCount"),
+        (b"at", "BadCount"),
+        (b"put orders 0", "BadCount"),
+        (b"update orders 1 2", "BadCount"),
+        (b"update orders 1 2 3 a b", "BadCount"),
+        (b"frob \xff", "BadText"),
+        (b"queue \xff b", "BadText"),
+        (b"frob %ff x", "BadWord"),
+        (b"put %ff x", "BadCount"),
+        (b"put %ff x -1 a", "BadText"),
+        (b"put orders x - %ff", "BadNumber"),
+        (b"put orders x -1 a", "BadNumber"),
+        (b"put orders 0 -1 %ff", "BadText"),
+    ];
+    expect(&rt, &cases)
+}
+
+#[test]
+fn spaces_and_the_end_of_a_line(rt: HostRuntime) -> Result<(), Fail> {
+    let cases: [(&[u8], &str); 11] = [
+        (b"", "blank"),
+        (b"\n", "blank"),
+        (b"\r\n", "blank"),
+        (b"   \n", "blank"),
+        (b"  queue   orders  \n", "MakeQueue [orders]"),
+        (b"queue orders\r\n", "MakeQueue [orders]"),
+        (b"queue orders\r", "MakeQueue [orders\r]"),
+        (b"queue orders\r\r\n", "MakeQueue [orders\r]"),
+        (b"queue or\tders\n", "MakeQueue [or\tders]"),
+        (b"queue\torders\n", "BadWord"),
+        (b"\t\n", "BadWord"),
+    ];
+    expect(&rt, &cases)
+}
