@@ -5,3 +5,4 @@ pub mod History
 pub mod State
 pub mod Plans
 pub mod Hub
+pub mod Mounting

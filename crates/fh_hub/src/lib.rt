@@ -2,12 +2,16 @@
 #![tactic(auto)]
 
 mod asking;
+mod faults;
 mod history;
 mod hub;
+mod mounting;
 mod plan;
 mod state;
 
+pub use faults::{HubFault, HubRule};
 pub use history::History;
 pub use hub::Hub;
+pub use mounting::prepare;
 pub use plan::{Change, Plan, Staged};
 pub use state::State;

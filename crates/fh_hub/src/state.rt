@@ -69,6 +69,20 @@ impl State {
         &self.history
     }
 
+    /// The moment of the last entry, in milliseconds.
+    pub fn last(&self) -> u64
+        ensures { result ≡ self.now.last }
+    {
+        self.last
+    }
+
+    /// The place of the journal's next gate, in bytes.
+    pub fn gate(&self) -> u64
+        ensures { result ≡ self.now.gate }
+    {
+        self.gate
+    }
+
     /// Where a message is at the effective moment.
     pub fn place_of(&self, number: u64, now: Moment) -> Place
         ensures { result ≡ place_of self.now.queues.part number (effective_moment (world_of self.now) now) }

@@ -1,0 +1,109 @@
+// How a journal is mounted: its frames are read, and their entries are replayed.
+ghost use Rattle.std.specs.Prelude.{◌≡◌, ◌⊎◌, ◌≤◌, ◌∷◌, ◌++◌, [], false, List, ℕ, None, Some, IfOk, IfErr, OnOk, OnErr, IfSome, IsErrOf};
+ghost use Rattle.fh_base.specs.Faults.{Rose};
+ghost use Rattle.fh_disk.specs.Disk.{OnlyTold};
+ghost use Rattle.fh_disk.specs.Moments.{LeavesOnly};
+ghost use Rattle.fh_journal.specs.Frames.{payloads_of as payloads_in, frames_from};
+ghost use Rattle.fh_journal.specs.Keeping.{Keeps, StaysTold};
+ghost use Rattle.fh_journal.specs.Mounting.{IsBeingMade};
+ghost use Rattle.fh_hub.specs.Replay.{Entry, payloads_of, IsLegal};
+ghost use Rattle.fh_queues.specs.Edits.{planned as planned_queues};
+ghost use Rattle.fh_hub.specs.State.{IsIdle, IsFaithful, IsPlanned};
+ghost use Rattle.fh_hub.specs.Hub.{StandsForHistory};
+ghost use Rattle.fh_hub.specs.Mounting.{HasEntryReason, HasReplayReason, MountsHistory};
+
+use crate::faults::{EntryFault, HubFault};
+use crate::plan::{Change, Plan};
+use crate::state::State;
+use fh_base::NoMemory;
+use fh_disk::Disk;
+use fh_event::{EventFault, PlanFault, decode};
+use fh_journal::{Frames, MountFault, Payload};
+use std::alloc::Global;
+
+/// Mounts a journal: its frames are read, and their entries are replayed. It begins with a sync. A file of
+/// at most 7 bytes stands for no entries, and is made anew where it isn't exactly that; nothing else is
+/// written, and a file that is refused stays as it is.
+pub fn prepare<J: Disk>(alloc: Global, disk: &mut J) -> Result<State, HubFault>
+    ensures stands { IfOk result (λ state. Keeps (J.told disk.new) (J.may_leave disk.new) false (payloads_of state.history) [] state.gate) }
+    ensures faithful { IfOk result IsFaithful }
+    ensures idle { IfOk result IsIdle }
+    ensures durable { OnOk result (OnlyTold (J.told disk.new) (J.may_leave disk.new)) }
+    ensures mounted { OnOk result (MountsHistory (J.told disk.old) (J.told disk.new) None) }
+    ensures refused { IfErr result (λ fault. MountsHistory (J.told disk.old) (J.told disk.new) (Some fault)) }
+    ensures fault { IsErrOf result HubFault.DiskFault → Rose (J.disk_faults disk.old) (J.disk_faults disk.new) }
+    ensures any_moment { IfSome (J.told disk.old) (λ file. LeavesOnly J.moment J.left_since disk.old disk.new
+        (λ c. J.may_leave disk.old c ⊎ IsBeingMade file c)) }
+    ensures same_history { (history : List Entry) → IfSome (J.told disk.old) (λ file. StandsForHistory history file
+        → LeavesOnly J.moment J.left_since disk.old disk.new (λ c. J.may_leave disk.old c ⊎ StandsForHistory history c)) }
+    ensures told { StaysTold (J.told disk.old) (J.told disk.new) }
+    ensures count { J.disk_faults disk.old ≤ J.disk_faults disk.new }
+{
+    let prepared = fh_journal::prepare(alloc, disk)?;
+    let mut state = State::new(alloc);
+    state.replay(alloc, prepared.frames)?;
+    Ok(state)
+}
+
+impl State {
+    // Replays the entries of frames from the first on.
+    fn replay(&mut self, alloc: Global, frames: Frames) -> Result<(), HubFault>
+        requires begun { self.old.history ≡ [] }
+        requires idle { IsIdle self.old }
+        requires places { frames ≡ frames_from 6 (payloads_in frames) }
+        ensures history { OnOk result (payloads_of self.new.history ≡ payloads_in frames) }
+        ensures faithful { IsFaithful self.new }
+        ensures idle { IsIdle self.new }
+        ensures reason { IfErr result (HasReplayReason (payloads_in frames)) }
+    {
+        for frame in frames.into_vec() {
+            let at = frame.at;
+            if let Err(fault) = self.replay_entry(alloc, frame.payload) {
+                return Err(fault.at(at));
+            }
+        }
+        Ok(())
+    }
+
+    // Replays the entry that a payload spells.
+    fn replay_entry(&mut self, alloc: Global, payload: Payload) -> Result<(), EntryFault>
+        requires { IsIdle self.old }
+        ensures history { OnOk result (payloads_of self.new.history ≡ payloads_of self.old.history ++ payload ∷ []) }
+        ensures refused { OnErr result (self.new.history ≡ self.old.history) }
+        ensures faithful { IsFaithful self.new }
+        ensures idle { IsIdle self.new }
+        ensures legal { IsLegal self.old.history }
+        ensures reason { IfErr result (HasEntryReason self.old.history payload) }
+    {
+        let (moment, command) = match decode(alloc, payload.as_slice()) {
+            Ok(entry) => entry,
+            Err(EventFault::NoMemory) => return Err(EntryFault::NoMemory),
+            Err(fault) => return Err(EntryFault::Event(fault)),
+        };
+        if moment.ms() < self.last() {
+            return Err(EntryFault::Refused);
+        }
+        match self.plan(alloc, &command, moment.ms()) {
+            Ok(Plan::Records(change)) => Ok(self.make(change)?),
+            Ok(Plan::Reads(_)) | Ok(Plan::Quiet(_)) => Err(EntryFault::Refused),
+            Err(PlanFault::Rule(_)) => Err(EntryFault::Refused),
+            Err(PlanFault::NoMemory) => Err(EntryFault::NoMemory),
+        }
+    }
+
+    // Makes a change at once.
+    fn make(&mut self, change: Change) -> Result<(), NoMemory>
+        ghost e: { Entry }
+        requires idle { IsIdle self.old }
+        requires planned { IsPlanned self.old (planned_queues self.old.queues.part change.queues) change.payload e }
+        requires moment { change.moment ≡ e.moment }
+        ensures history { OnOk result (self.new.history ≡ self.old.history ++ e ∷ []) }
+        ensures refused { OnErr result (self.new.history ≡ self.old.history) }
+        ensures faithful { IsFaithful self.new }
+        ensures idle { IsIdle self.new }
+    {
+        let staged = self.stage(change)?;
+        let _reply = self.settle(staged);
+        Ok(())
+    }
+}
