@@ -27,6 +27,21 @@ pub struct Hub<'d, J: Disk> {
 }
 
 impl<'d, J: Disk> Hub<'d, J> {
+    /// The hub over a disk whose journal was prepared. Takes no memory.
+    pub fn over(alloc: Global, disk: &'d mut J, state: State) -> Hub<'d, J>
+        requires { IsIdle state }
+        ensures same { result.journal.disk.ghost_name ≡ disk.entry.ghost_name }
+        ensures disk { result.journal.disk.now ≡ disk.entry.now }
+        ensures state { result.state ≡ state }
+        ensures gate { result.journal.gate ≡ state.gate }
+        ensures whole { result.journal.torn ≡ false }
+    {
+        Hub {
+            journal: Journal::over(alloc, disk, state.gate()),
+            state,
+        }
+    }
+
     /// Gives the disk back.
     pub fn close(self) -> &'d mut J
         ensures same { result.ghost_name ≡ self.entry.journal.disk.ghost_name }
