@@ -1,0 +1,16 @@
+pub mod Accounts
+pub mod Acts
+pub mod Changes
+pub mod Ends
+pub mod Filters
+pub mod Finding
+pub mod Histories
+pub mod Items
+pub mod Kept
+pub mod Numbers
+pub mod Orders
+pub mod Receipts
+pub mod Sounds
+pub mod Standing
+pub mod Takes
+pub mod Ways

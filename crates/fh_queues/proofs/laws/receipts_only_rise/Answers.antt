@@ -1,0 +1,5 @@
+use Rattle.fh_queues.proofs.Histories.{raises_receipts}
+use Rattle.fh_queues.proofs.laws.receipts_only_rise.Goals as goal
+
+pub returns : goal.returns
+returns c = raises_receipts

@@ -1,0 +1,17 @@
+pub mod Rows
+pub mod Asks
+pub mod Part
+pub mod Rules
+pub mod Outcome
+pub mod Sound
+pub mod Order
+pub mod Accounts
+pub mod Receipts
+pub mod Acts
+pub mod Ends
+pub mod Histories
+pub mod Laws
+pub mod Places
+pub mod Edits
+pub mod Lists
+pub mod Faults
