@@ -7,18 +7,28 @@ use std::marker::Model;
 // What is changed, where the row of a put is kept elsewhere.
 #[derive(Drop)]
 pub(crate) enum Edit {
-    Make { queue: QueueName },
+    Make {
+        queue: QueueName,
+    },
     LeaveThere,
     Put,
-    Hold { until: u64, items: Items },
+    Hold {
+        until: u64,
+        items: Items,
+    },
     LeaveEmpty,
     Renew {
         number: u64,
         until: u64,
         text: Option<Text>,
     },
-    Delete { number: u64 },
-    Clear { queue: QueueName, count: u64 },
+    Delete {
+        number: u64,
+    },
+    Clear {
+        queue: QueueName,
+        count: u64,
+    },
     Sweep,
 }
 

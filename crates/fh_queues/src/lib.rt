@@ -33,3 +33,6 @@ pub use laws::{
 };
 pub use queues::Queues;
 pub use row::{About, Message};
+
+#[cfg(test)]
+mod tests;

@@ -5,8 +5,7 @@ ghost use Rattle.fh_queues.specs.Edits.{edited, HasNumbers};
 ghost use Rattle.fh_queues.specs.Lists.{part_of, end_room};
 
 use crate::change::Edit;
-use crate::rows;
-use crate::{End, Ending, Message, QueueDone};
+use crate::{End, Ending, Message, QueueDone, rows};
 use fh_base::{Moment, QueueName};
 use fh_event::{Item, Text};
 use std::alloc::Global;

@@ -20,7 +20,12 @@ impl Queues {
     /// The change that an ask makes at a moment, or the rule that refuses it. Rules are tested in the order
     /// of their numbers.
     #[tactic(auto, unfolding(crate::specs::Outcome::outcome))]
-    pub fn plan(&self, alloc: Global, ask: &QueueAsk<'_>, m: Moment) -> Result<QueueChange, PlanFault>
+    pub fn plan(
+        &self,
+        alloc: Global,
+        ask: &QueueAsk<'_>,
+        m: Moment,
+    ) -> Result<QueueChange, PlanFault>
         requires idle { IsIdle self.now }
         requires numbers { HasNumbers self.now.part }
         ensures ok { IfOk result (λ change. outcome self.now.part (ask_of ask.now) m ≡ Ok (planned self.now.part change)) }
@@ -97,7 +102,14 @@ impl Queues {
         })
     }
 
-    fn plan_take(&self, alloc: Global, m: Moment, queue: &QueueName, count: u64, hold: u64) -> Result<QueueChange, PlanFault>
+    fn plan_take(
+        &self,
+        alloc: Global,
+        m: Moment,
+        queue: &QueueName,
+        count: u64,
+        hold: u64,
+    ) -> Result<QueueChange, PlanFault>
         requires numbers { HasNumbers self.now.part }
         ensures ok { IfOk result (λ change. taking self.now.part m queue.now count hold ≡ Ok (planned self.now.part change)) }
         ensures err { IfErr result (λ fault. IsFaultOf fault (taking self.now.part m queue.now count hold)) }
@@ -132,10 +144,23 @@ impl Queues {
         }
         let text = text_of(alloc, text)?;
         let until = m.ms() + hold * MILLISECONDS;
-        Ok(QueueChange::of(m, Edit::Renew { number, until, text }))
+        Ok(QueueChange::of(
+            m,
+            Edit::Renew {
+                number,
+                until,
+                text,
+            },
+        ))
     }
 
-    fn plan_delete(&self, m: Moment, queue: &QueueName, number: u64, receipt: u64) -> Result<QueueChange, PlanFault>
+    fn plan_delete(
+        &self,
+        m: Moment,
+        queue: &QueueName,
+        number: u64,
+        receipt: u64,
+    ) -> Result<QueueChange, PlanFault>
         ensures ok { IfOk result (λ change. deleting self.now.part m queue.now number receipt ≡ Ok (planned self.now.part change)) }
         ensures err { IfErr result (λ fault. IsFaultOf fault (deleting self.now.part m queue.now number receipt)) }
     {
@@ -156,7 +181,13 @@ impl Queues {
         if count == 0 {
             return Ok(QueueChange::of(m, Edit::LeaveEmpty));
         }
-        Ok(QueueChange::of(m, Edit::Clear { queue: *queue, count }))
+        Ok(QueueChange::of(
+            m,
+            Edit::Clear {
+                queue: *queue,
+                count,
+            },
+        ))
     }
 
     // How many live messages a queue has.

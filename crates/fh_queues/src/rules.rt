@@ -23,7 +23,14 @@ const MOST_TTL: u64 = 2_147_483_647;
 const MOST_COUNT: u64 = 32;
 
 impl Queues {
-    pub(crate) fn put_rule(&self, m: Moment, queue: &QueueName, delay: u64, ttl: Option<u64>, text: &Text) -> Option<Rule>
+    pub(crate) fn put_rule(
+        &self,
+        m: Moment,
+        queue: &QueueName,
+        delay: u64,
+        ttl: Option<u64>,
+        text: &Text,
+    ) -> Option<Rule>
         ensures { result ≡ put_rule self.now.part m queue.now delay ttl text.now }
     {
         if let Some(rule) = text_rule(text) {
@@ -82,7 +89,13 @@ impl Queues {
         self.message_rule(m, queue, number, receipt)
     }
 
-    pub(crate) fn message_rule(&self, m: Moment, queue: &QueueName, number: u64, receipt: u64) -> Option<Rule>
+    pub(crate) fn message_rule(
+        &self,
+        m: Moment,
+        queue: &QueueName,
+        number: u64,
+        receipt: u64,
+    ) -> Option<Rule>
         ensures { result ≡ message_rule self.now.part m queue.now number receipt }
     {
         if let Some(rule) = self.queue_rule(queue) {
