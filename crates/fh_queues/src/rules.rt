@@ -98,10 +98,10 @@ impl Queues {
     ) -> Option<Rule>
         ensures { result ≡ message_rule self.now.part m queue.now number receipt }
     {
-        if let Some(rule) = self.queue_rule(queue) {
-            return Some(rule);
+        match self.queue_rule(queue) {
+            Some(rule) => Some(rule),
+            None => receipt_rule(self.row_in(queue, number, m), receipt),
         }
-        receipt_rule(self.row_in(queue, number, m), receipt)
     }
 
     pub(crate) fn queue_rule(&self, queue: &QueueName) -> Option<Rule>
