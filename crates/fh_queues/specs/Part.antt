@@ -74,11 +74,13 @@ with_row row part = record part {
 abbrev pub taken_items : ℕ → List Message → List Item
 taken_items receipt [] = []
 taken_items receipt (row ∷ rows) =
-    record { number = row.number; receipt = receipt; count = row.count + 1; text = row.text } ∷ taken_items (receipt + 1) rows
+    record { number = row.number; receipt = receipt; count = row.count + 1; text = row.text }
+    ∷ taken_items (receipt + 1) rows
 
 -- a row that is held until then, with the receipt and the count of what was taken
 abbrev pub held : ℕ → Item → Message → Message
-held until item row = record row { visible_at = until; count = item.count; receipt = item.receipt; held = true }
+held until item row =
+    record row { visible_at = until; count = item.count; receipt = item.receipt; held = true }
 
 abbrev pub with_item : ℕ → List Message → Item → List Message
 with_item until rows item = with_change item.number (held until item) rows

@@ -68,7 +68,7 @@ impl QueueChange {
     ghost use Rattle.fh_queues.specs.Outcome.{is_quiet};
     ghost use Rattle.fh_queues.specs.Edits.{planned};
 
-    /// What is answered where nothing changes, since the queue is there or has no message to act on.
+    /// What is answered where nothing changes: the queue is there, or has no message to act on.
     pub fn quiet(&self) -> Option<QueueDone>
         ensures { (part : QueuePart) → MatchOption result (is_quiet (planned part self.now).1 ≡ false)
             (λ done. (planned part self.now ≡ (part, done)) × (is_quiet done ≡ true)) }

@@ -19,7 +19,8 @@ pub(crate) fn chosen<'a>(
     count: u64,
     m: Moment,
 ) -> Result<Vec<&'a Message>, NoMemory>
-    ensures { IfOk result (λ found. map (λ row. row.now) found.items ≡ take count (visible queue.now m rows.entry.now)) }
+    ensures { IfOk result
+        (λ found. map (λ row. row.now) found.items ≡ take count (visible queue.now m rows.entry.now)) }
 {
     let mut found = Vec::new(alloc);
     for row in rows {

@@ -1,4 +1,4 @@
-//! What holds of the queues after any list of asks from no queues on. What is refused changes nothing.
+//! What holds of the queues after any list of asks, from no queues on. What is refused changes nothing.
 
 ghost use Rattle.std.specs.Prelude.{ℕ, ◌≤◌, List};
 ghost use Rattle.fh_queues.specs.Part.{QueuePart};

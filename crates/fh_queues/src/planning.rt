@@ -17,8 +17,8 @@ use std::alloc::Global;
 const MILLISECONDS: u64 = 1000;
 
 impl Queues {
-    /// The change that an ask makes at a moment, or the rule that refuses it. Rules are tested in the order
-    /// of their numbers.
+    /// The change that an ask makes at a moment, or the rule that refuses it. Rules are tested in the
+    /// order of their numbers.
     #[tactic(auto, unfolding(crate::specs::Outcome::outcome))]
     pub fn plan(
         &self,
@@ -76,7 +76,9 @@ impl Queues {
         text: &Text,
         about: Option<&About>,
     ) -> Result<QueueChange, PlanFault>
-        ensures { IsPlanOf self.now.part (putting self.now.part m queue.now delay ttl text.now (option_map (λ a. a.now) about.entry)) result }
+        ensures { IsPlanOf self.now.part
+            (putting self.now.part m queue.now delay ttl text.now (option_map (λ a. a.now) about.entry))
+            result }
     {
         if let Some(rule) = self.put_rule(m, queue, delay, ttl, text) {
             return Err(PlanFault::Rule(rule));
@@ -133,7 +135,9 @@ impl Queues {
         hold: u64,
         text: Option<&Text>,
     ) -> Result<QueueChange, PlanFault>
-        ensures { IsPlanOf self.now.part (updating self.now.part m queue.now number receipt hold (option_map (λ t. t.now) text.entry)) result }
+        ensures { IsPlanOf self.now.part
+            (updating self.now.part m queue.now number receipt hold (option_map (λ t. t.now) text.entry))
+            result }
     {
         if let Some(rule) = self.update_rule(m, queue, number, receipt, hold, text) {
             return Err(PlanFault::Rule(rule));

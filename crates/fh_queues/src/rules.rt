@@ -78,7 +78,8 @@ impl Queues {
         hold: u64,
         text: Option<&Text>,
     ) -> Option<Rule>
-        ensures { result ≡ update_rule self.now.part m queue.now number receipt hold (option_map (λ t. t.now) text.entry) }
+        ensures { result
+            ≡ update_rule self.now.part m queue.now number receipt hold (option_map (λ t. t.now) text.entry) }
     {
         if let Some(rule) = new_text_rule(text) {
             return Some(rule);
