@@ -1,5 +1,5 @@
 -- How far one ask moves the counters.
-use Rattle.std.proofs.Common.{◌≡◌, ℕ, suc, ◌+◌, ◌≤◌, Bool, true, false, List, [], ◌∷◌, length, take, Option, Some, None, refl, ap, ◌∙◌, Ok, arith, length-take}
+use Rattle.std.proofs.Common.{◌≡◌, ℕ, suc, ◌+◌, ◌≤◌, Bool, true, false, List, [], ◌∷◌, length, Some, None, refl, ap, Ok, arith, length-take}
 use Rattle.std.specs.Prelude.{◌&&◌, nat_le, if◌then◌else◌}
 use Rattle.std.proofs.lemmas.Bool.Decides.{nat_tests}
 use Rattle.fh_base.specs.declared.rule.Rule.TheVariants.{OutOfRange}
@@ -7,7 +7,7 @@ use Rattle.fh_queues.specs.declared.row.Message.{Message}
 use Rattle.fh_queues.specs.Asks.{Ask, Make, Put, Take, Update, Delete, Clear, Sweep}
 use Rattle.fh_queues.specs.Rows.{visible}
 use Rattle.fh_queues.specs.Part.{QueuePart, swept, taken_items}
-use Rattle.fh_queues.specs.Rules.{first_broken, range_rule, take_rule, queue_rule}
+use Rattle.fh_queues.specs.Rules.{range_rule, take_rule, queue_rule}
 use Rattle.fh_queues.specs.Outcome.{Outcome, outcome}
 use Rattle.fh_queues.proofs.Ways.{by_ways, chosen, unbroken, unbroken-head}
 
