@@ -4,7 +4,7 @@ use fh_base::{Moment, QueueName};
 use fh_event::{Items, Text};
 use std::marker::Model;
 
-// What is changed, where the row of a put is kept elsewhere.
+// What is changed. The row of a put is kept beside it.
 #[derive(Drop)]
 pub(crate) enum Edit {
     Make {
