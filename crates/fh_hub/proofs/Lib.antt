@@ -5,3 +5,5 @@ pub mod Narrow
 pub mod Recording
 pub mod Replays
 pub mod Spelling
+pub mod Steps
+pub mod Tallies

@@ -6,3 +6,4 @@ pub mod State
 pub mod Plans
 pub mod Hub
 pub mod Mounting
+pub mod Laws
