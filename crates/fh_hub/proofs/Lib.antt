@@ -7,3 +7,7 @@ pub mod Replays
 pub mod Spelling
 pub mod Steps
 pub mod Tallies
+pub mod Births
+pub mod Holds
+pub mod Told
+pub mod Places

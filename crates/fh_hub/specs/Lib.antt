@@ -7,3 +7,4 @@ pub mod Plans
 pub mod Hub
 pub mod Mounting
 pub mod Laws
+pub mod Places

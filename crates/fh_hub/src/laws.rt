@@ -1,8 +1,9 @@
 //! What holds of every history. The world and the history of a hub are such a pair.
 
 ghost use Rattle.std.specs.Prelude.{ℕ, ◌≤◌, List};
-ghost use Rattle.fh_hub.specs.Replay.{Entry, trace};
+ghost use Rattle.fh_hub.specs.Replay.{Entry, trace, replay};
 ghost use Rattle.fh_hub.specs.Laws.{births, receipts};
+ghost use Rattle.fh_hub.specs.Places.{IsInOnePlace, IsLocated};
 
 /// A number is given to one message at most.
 pub fn numbers_are_given_once()
@@ -12,4 +13,16 @@ pub fn numbers_are_given_once()
 /// A receipt is given out once at most, over all replies.
 pub fn receipts_are_given_once()
     ensures { (history : List Entry) (k : ℕ) → receipts k (trace history) ≤ 1 }
+{}
+
+/// At each moment from the last one on, a message that was born stands in exactly one place: it waits, it
+/// is held, a client removed it, or it has expired, which one without a time to live never does.
+pub fn messages_are_in_one_place()
+    ensures { (history : List Entry) (n t : ℕ) → (replay history).last ≤ t → IsInOnePlace history n t }
+{}
+
+/// Where the world says that a message is, there it is by the events: waiting or held in the queue into
+/// which it was put, until the end of its last hold, removed, expired, or unknown where it isn't born.
+pub fn messages_are_located()
+    ensures { (history : List Entry) (n t : ℕ) → (replay history).last ≤ t → IsLocated history n t }
 {}
