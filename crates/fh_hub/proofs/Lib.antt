@@ -11,3 +11,4 @@ pub mod Births
 pub mod Holds
 pub mod Told
 pub mod Places
+pub mod Guarding

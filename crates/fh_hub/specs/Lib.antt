@@ -8,3 +8,4 @@ pub mod Hub
 pub mod Mounting
 pub mod Laws
 pub mod Places
+pub mod Guards

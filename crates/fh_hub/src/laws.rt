@@ -1,9 +1,11 @@
 //! What holds of every history. The world and the history of a hub are such a pair.
 
 ghost use Rattle.std.specs.Prelude.{ℕ, ◌≤◌, List};
+ghost use Rattle.std.specs.List.{All};
 ghost use Rattle.fh_hub.specs.Replay.{Entry, trace, replay};
 ghost use Rattle.fh_hub.specs.Laws.{births, receipts};
 ghost use Rattle.fh_hub.specs.Places.{IsInOnePlace, IsLocated};
+ghost use Rattle.fh_hub.specs.Guards.{GuardsMessages};
 
 /// A number is given to one message at most.
 pub fn numbers_are_given_once()
@@ -25,4 +27,11 @@ pub fn messages_are_in_one_place()
 /// which it was put, until the end of its last hold, removed, expired, or unknown where it isn't born.
 pub fn messages_are_located()
     ensures { (history : List Entry) (n t : ℕ) → (replay history).last ≤ t → IsLocated history n t }
+{}
+
+/// No old receipt changes a message. In each event a live one stays as it is, unless a take of its queue
+/// lists it, an update or a delete has its newest receipt, or its queue is cleared; and a message that
+/// changes has a newer receipt.
+pub fn receipts_guard_messages()
+    ensures { (history : List Entry) → All GuardsMessages (trace history) }
 {}
