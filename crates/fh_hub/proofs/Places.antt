@@ -19,7 +19,7 @@ use Rattle.fh_queues.proofs.Ends.{deletions, expiries, one_end, gone-end_of, gon
 use Rattle.fh_hub.specs.World.{World}
 use Rattle.fh_hub.specs.Replay.{Entry, Event, trace, replay}
 use Rattle.fh_hub.specs.Laws.{births}
-use Rattle.fh_hub.specs.Places.{expiry_by, expiry_of, queue_of, last_hold, ends_after, end_or_zero, waits, is_waiting, is_held, was_removed, has_expired, one_if, places, place_told, IsInOnePlace, IsLocated}
+use Rattle.fh_hub.specs.Places.{expiry_by, expiry_of, queue_of, last_hold, ends_after, waits, is_waiting, is_held, was_removed, has_expired, one_if, places, IsInOnePlace, IsPlace, IsLocated}
 use Rattle.fh_hub.proofs.Births.{unborn}
 use Rattle.fh_hub.proofs.Holds.{own_hold}
 use Rattle.fh_hub.proofs.Told.{Told, expired_later, told}
@@ -42,10 +42,24 @@ none_least k is = grind (arith, nat_tests)
 least_none : (k : ℕ) → k ≡ 0 → nat_le 1 k ≡ false
 least_none k is = grind (arith, nat_tests)
 
--- in one place where it was born, and there as the events tell
+abbrev end_or_zero : Option ℕ → ℕ
+end_or_zero None = 0
+end_or_zero (Some end) = end
+
+differ : {b : Bool} → b ≡ true → b ≡ false → ⊥
+differ holds fails = cc
+
+-- the tests of the four places have these values
+record Tested (n : ℕ) (events : List Event) (w : World) (t : ℕ) (a b c d : Bool) : Type 0 where
+  pub waiting : is_waiting n w t ≡ a
+  pub held : is_held n events w t ≡ b
+  pub removed : was_removed n events ≡ c
+  pub expired : has_expired n events t ≡ d
+
+-- in one place where it was born, and there by the events
 record Placed (n : ℕ) (events : List Event) (w : World) (t : ℕ) : Type 0 where
   pub sum : places n events w t ≡ births n events
-  pub told : place_of w.queues n t ≡ place_told n events w t
+  pub place : IsPlace n events w t (place_of w.queues n t)
 
 module _ (events : List Event) (w : World) (h : Told events w) (n t : ℕ) (late : w.last ≤ t) where
   abbrev total : Bool → Bool → Bool → Bool → ℕ
@@ -59,7 +73,63 @@ module _ (events : List Event) (w : World) (h : Told events w) (n t : ℕ) (late
       else if d then place.Expired
       else place.Unknown
 
-  -- so it is where the four tests have these values
+  last_hold_some : (last : Option ℕ) → last_hold n events ≡ last → is_held n events w t ≡ true → last_hold n events ≡ Some (end_or_zero (last_hold n events))
+  last_hold_some None is held = absurd (none_held (is_some (live_row n t w.queues.rows)) (sym (ap (λ k. is_some (live_row n t w.queues.rows) && ends_after t k) is) ∙ held))
+    where
+      none_held : (there : Bool) → (there && false) ≡ true → ⊥
+      none_held true is = cc
+      none_held false is = cc
+  last_hold_some (Some end) is held = is ∙ ap (λ k. Some (end_or_zero k)) (sym is)
+
+  -- where the four tests have these values, of which at most one is true, the answer that goes by them is exact
+  exact : (a b c d : Bool) → Tested n events w t a b c d → total a b c d ≡ births n events → births n events ≤ 1 → (answer : Place) → answer ≡ chain a b c d → IsPlace n events w t answer
+  exact true false false false tests sum once answer is = record {
+    waiting = (λ x. is, λ x. tests.waiting);
+    held = λ end. (λ x. absurd (differ x.0 tests.held), λ x. absurd (cc));
+    removed = (λ x. absurd (differ x tests.removed), λ x. absurd (cc));
+    expired = (λ x. absurd (differ x tests.expired), λ x. absurd (cc));
+    unknown = (λ x. absurd (omega (arith, x, sum)), λ x. absurd (cc));
+  }
+  exact false true false false tests sum once answer is =
+      let some = last_hold_some (last_hold n events) refl tests.held in
+      record {
+        waiting = (λ x. absurd (differ x tests.waiting), λ x. absurd (cc));
+        held = λ end. (
+          λ x. is ∙ ap (λ k. place.Held (queue_of n events) (end_or_zero k)) x.1,
+          λ x. (tests.held, let same : end_or_zero (last_hold n events) ≡ end = cc in some ∙ ap (λ (k : ℕ). Some k) same),
+        );
+        removed = (λ x. absurd (differ x tests.removed), λ x. absurd (cc));
+        expired = (λ x. absurd (differ x tests.expired), λ x. absurd (cc));
+        unknown = (λ x. absurd (omega (arith, x, sum)), λ x. absurd (cc));
+      }
+  exact false false true false tests sum once answer is = record {
+    waiting = (λ x. absurd (differ x tests.waiting), λ x. absurd (cc));
+    held = λ end. (λ x. absurd (differ x.0 tests.held), λ x. absurd (cc));
+    removed = (λ x. is, λ x. tests.removed);
+    expired = (λ x. absurd (differ x tests.expired), λ x. absurd (cc));
+    unknown = (λ x. absurd (omega (arith, x, sum)), λ x. absurd (cc));
+  }
+  exact false false false true tests sum once answer is = record {
+    waiting = (λ x. absurd (differ x tests.waiting), λ x. absurd (cc));
+    held = λ end. (λ x. absurd (differ x.0 tests.held), λ x. absurd (cc));
+    removed = (λ x. absurd (differ x tests.removed), λ x. absurd (cc));
+    expired = (λ x. is, λ x. tests.expired);
+    unknown = (λ x. absurd (omega (arith, x, sum)), λ x. absurd (cc));
+  }
+  exact false false false false tests sum once answer is = record {
+    waiting = (λ x. absurd (differ x tests.waiting), λ x. absurd (cc));
+    held = λ end. (λ x. absurd (differ x.0 tests.held), λ x. absurd (cc));
+    removed = (λ x. absurd (differ x tests.removed), λ x. absurd (cc));
+    expired = (λ x. absurd (differ x tests.expired), λ x. absurd (cc));
+    unknown = (λ x. is, λ x. sym sum);
+  }
+  exact true true c d tests sum once answer is = absurd (omega (arith, sum, once))
+  exact true false true d tests sum once answer is = absurd (omega (arith, sum, once))
+  exact true false false true tests sum once answer is = absurd (omega (arith, sum, once))
+  exact false true true d tests sum once answer is = absurd (omega (arith, sum, once))
+  exact false true false true tests sum once answer is = absurd (omega (arith, sum, once))
+  exact false false true true tests sum once answer is = absurd (omega (arith, sum, once))
+
   by_values : (a b c d : Bool) → is_waiting n w t ≡ a → is_held n events w t ≡ b → was_removed n events ≡ c → has_expired n events t ≡ d → total a b c d ≡ births n events → place_of w.queues n t ≡ chain a b c d → Placed n events w t
   by_values a b c d waiting held removed expired sum is = record {
     sum =
@@ -68,12 +138,7 @@ module _ (events : List Event) (w : World) (h : Told events w) (n t : ℕ) (late
         ∙ ap (λ x. total a b x (has_expired n events t)) removed
         ∙ ap (λ x. total a b c x) expired
         ∙ sum;
-    told =
-        is
-        ∙ sym (ap (λ x. chain x (is_held n events w t) (was_removed n events) (has_expired n events t)) waiting
-        ∙ ap (λ x. chain a x (was_removed n events) (has_expired n events t)) held
-        ∙ ap (λ x. chain a b x (has_expired n events t)) removed
-        ∙ ap (λ x. chain a b c x) expired);
+    place = exact a b c d (record { waiting = waiting; held = held; removed = removed; expired = expired }) sum (h.tallies.once n) (place_of w.queues n t) is;
   }
 
   one : gone n w.queues.ends ≤ 1
@@ -212,4 +277,4 @@ in_one_place history n t late =
     }
 
 pub located : (history : List Entry) (n t : ℕ) → (replay history).last ≤ t → IsLocated history n t
-located history n t late = (placed_in history n t late).told
+located history n t late = (placed_in history n t late).place

@@ -1,5 +1,5 @@
 -- Where each message stands, by the events of a trace, the world and a moment.
-use Rattle.std.specs.Prelude.{◌≡◌, ℕ, ◌+◌, ◌==◌, nat_le, nat_lt, Bool, true, false, not, ◌&&◌, ◌||◌, if◌then◌else◌, List, [], fold, find, Option, Some, None, is_some}
+use Rattle.std.specs.Prelude.{◌≡◌, ℕ, ◌+◌, ◌==◌, nat_le, nat_lt, Bool, true, false, not, ◌&&◌, ◌||◌, ◌↔◌, if◌then◌else◌, List, [], fold, find, Option, Some, None, is_some}
 use Rattle.std.specs.List.{list_any}
 use Rattle.fh_event.specs.declared.command.Command.{Command}
 use Rattle.fh_event.specs.declared.command.Command.TheVariants.{MakeQueue, Put, Take, Update, Delete, Clear, Peek, Locate}
@@ -140,19 +140,6 @@ abbrev pub places : ℕ → List Event → World → ℕ → ℕ
 places n events w t =
     one_if (is_waiting n w t) + one_if (is_held n events w t) + one_if (was_removed n events) + one_if (has_expired n events t)
 
-abbrev pub end_or_zero : Option ℕ → ℕ
-end_or_zero None = 0
-end_or_zero (Some end) = end
-
--- the place, as it is answered
-abbrev pub place_told : ℕ → List Event → World → ℕ → Place
-place_told n events w t =
-    if is_waiting n w t then place.Waiting (queue_of n events)
-    else if is_held n events w t then place.Held (queue_of n events) (end_or_zero (last_hold n events))
-    else if was_removed n events then place.Deleted
-    else if has_expired n events t then place.Expired
-    else place.Unknown
-
 -- a message that was born is in exactly one place, and one without expiry has never expired; what isn't born
 -- is nowhere
 pub record IsInOnePlace (history : List Entry) (n t : ℕ) : Type 0 where
@@ -160,6 +147,15 @@ pub record IsInOnePlace (history : List Entry) (n t : ℕ) : Type 0 where
   pub unborn : births n (trace history) ≡ 0 → places n (trace history) (replay history) t ≡ 0
   pub lasting : expiry_of n (trace history) ≡ None → has_expired n (trace history) t ≡ false
 
--- what the world answers is the place that the events tell
+-- this answer says exactly where the message is: in its queue, waiting or held until the end of its last hold,
+-- or how it went, or that it isn't born
+pub record IsPlace (n : ℕ) (events : List Event) (w : World) (t : ℕ) (answer : Place) : Type 0 where
+  pub waiting : (is_waiting n w t ≡ true) ↔ (answer ≡ place.Waiting (queue_of n events))
+  pub held : (end : ℕ) → ((is_held n events w t ≡ true) × (last_hold n events ≡ Some end)) ↔ (answer ≡ place.Held (queue_of n events) end)
+  pub removed : (was_removed n events ≡ true) ↔ (answer ≡ place.Deleted)
+  pub expired : (has_expired n events t ≡ true) ↔ (answer ≡ place.Expired)
+  pub unknown : (births n events ≡ 0) ↔ (answer ≡ place.Unknown)
+
+-- what is answered by the world's rows and ends is the place by the events
 abbrev pub IsLocated : List Entry → ℕ → ℕ → Type 0
-IsLocated history n t = place_of (replay history).queues n t ≡ place_told n (trace history) (replay history) t
+IsLocated history n t = IsPlace n (trace history) (replay history) t (place_of (replay history).queues n t)
