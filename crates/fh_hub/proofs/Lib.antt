@@ -12,3 +12,4 @@ pub mod Holds
 pub mod Told
 pub mod Places
 pub mod Guarding
+pub mod Rising

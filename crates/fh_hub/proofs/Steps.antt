@@ -116,7 +116,8 @@ module _ (I : List Event → World → Type 0) (keeps : IsKept I) where
   kept_by_one events w command now (Quieted reply) holds is = subst (λ (es : List Event). I es w) (sym (append-nil events)) holds
   kept_by_one events w command now (Recorded new reply) holds is = keeps events w command now new reply holds (made w command now new reply is)
 
-  kept_from : (entries : List Entry) (events : List Event) (w : World) → I events w → I (events ++ trace_from w entries) (replay_from w entries)
+  -- so it holds after more entries, where it holds before them
+  pub kept_from : (entries : List Entry) (events : List Event) (w : World) → I events w → I (events ++ trace_from w entries) (replay_from w entries)
   kept_from [] events w holds = subst (λ (es : List Event). I es w) (sym (append-nil events)) holds
   kept_from (e ∷ entries) events w holds =
       let s = step w e.command e.moment in
@@ -124,6 +125,6 @@ module _ (I : List Event → World → Type 0) (keeps : IsKept I) where
       subst (λ (es : List Event). I es (replay_from (after w e) entries)) (append_assoc events first (trace_from (after w e) entries))
       (kept_from entries (events ++ first) (after w e) (kept_by_one events w e.command e.moment s holds refl))
 
-  -- so it holds of each history
+  -- and of each history
   pub kept_by_all : I [] empty → (history : List Entry) → I (trace history) (replay history)
   kept_by_all begins history = kept_from history [] empty begins

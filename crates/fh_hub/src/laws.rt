@@ -2,10 +2,10 @@
 
 ghost use Rattle.std.specs.Prelude.{ℕ, ◌≤◌, List};
 ghost use Rattle.std.specs.List.{All};
-ghost use Rattle.fh_hub.specs.Replay.{Entry, trace, replay};
+ghost use Rattle.fh_hub.specs.Replay.{Entry, trace, replay, IsLegal};
 ghost use Rattle.fh_hub.specs.Laws.{births, receipts};
 ghost use Rattle.fh_hub.specs.Places.{IsInOnePlace, IsLocated};
-ghost use Rattle.fh_hub.specs.Guards.{GuardsMessages};
+ghost use Rattle.fh_hub.specs.Guards.{GuardsMessages, RisesOver, HasOwnMoment};
 
 /// A number is given to one message at most.
 pub fn numbers_are_given_once()
@@ -34,4 +34,14 @@ pub fn messages_are_located()
 /// changes has a newer receipt.
 pub fn receipts_guard_messages()
     ensures { (history : List Entry) → All GuardsMessages (trace history) }
+{}
+
+/// Over any later entries, a message that still stands is the same or has a newer receipt.
+pub fn receipts_only_rise()
+    ensures { (history entries : List Entry) → RisesOver history entries }
+{}
+
+/// Events of a legal history act at the moments of their entries.
+pub fn legal_events_have_their_moments()
+    ensures { (history : List Entry) → IsLegal history → All HasOwnMoment (trace history) }
 {}
