@@ -1,5 +1,5 @@
 -- Each event of a trace guards the messages.
-use Rattle.std.proofs.Common.{◌≡◌, ℕ, Bool, true, false, List, [], ◌∷◌, ◌++◌, Some, is_some, refl, sym, ◌∙◌, ap}
+use Rattle.std.proofs.Common.{◌≡◌, ℕ, List, is_some, refl, sym, ◌∙◌, ap}
 use Rattle.std.specs.Prelude.{◌&&◌}
 use Rattle.std.specs.List.{All}
 use Rattle.std.proofs.lemmas.List.Elements.{All-nil, All-push}
@@ -14,9 +14,9 @@ use Rattle.fh_queues.specs.Receipts.{listed_item, touches}
 use Rattle.fh_queues.proofs.Finding.{is_some-item_of}
 use Rattle.fh_queues.proofs.Receipts.{Stays-outcome, Rises-outcome}
 use Rattle.fh_hub.specs.World.{World, effective_moment, reply_of}
-use Rattle.fh_hub.specs.Replay.{Entry, Event, trace, replay}
+use Rattle.fh_hub.specs.Replay.{Entry, Event, trace}
 use Rattle.fh_hub.specs.Places.{lists}
-use Rattle.fh_hub.specs.Guards.{acts_on, is_acted_on, GuardsMessages}
+use Rattle.fh_hub.specs.Guards.{acts_on, GuardsMessages}
 use Rattle.fh_hub.proofs.Steps.{Made, IsKept, event, ask_of, kept_by_all}
 use Rattle.fh_hub.proofs.Tallies.{Tallies, tallies_kept}
 use Rattle.fh_queues.proofs.Accounts.{Accounts-none}

@@ -1,19 +1,17 @@
 -- What a recorded step says of the row of a message: its hold, and its birth.
-use Rattle.std.proofs.Common.{◌≡◌, ◌≢◌, ℕ, ◌+◌, ◌≤◌, Bool, true, false, not, ◌⊎◌, inl, inr, List, [], ◌∷◌, ◌++◌, take, filter, Option, Some, None, Ok, refl, sym, ◌∙◌, ap, subst, arith}
+use Rattle.std.proofs.Common.{◌≡◌, ℕ, ◌≤◌, Bool, true, false, not, inl, inr, List, [], ◌∷◌, ◌++◌, filter, Option, Some, None, Ok, refl, sym, ◌∙◌, ap, subst, arith}
 use Rattle.std.specs.Prelude.{◌==◌, if◌then◌else◌, is_some}
 use Rattle.std.specs.List.{list_any}
 use Rattle.std.proofs.lemmas.Bool.Decides.{nat_tests}
 use Rattle.fh_event.specs.declared.command.Command.{Command}
 use Rattle.fh_event.specs.declared.command.Command.TheVariants.{MakeQueue, Put, Take, Update, Delete, Clear, Peek, Locate}
 use Rattle.fh_event.specs.declared.reply.Item.{Item}
-use Rattle.fh_queues.specs.declared.row.About.{About}
 use Rattle.fh_queues.specs.declared.row.Message.{Message}
 use Rattle.fh_queues.specs.declared.done.QueueDone.{QueueDone}
-use Rattle.fh_queues.specs.declared.done.Ending.TheVariants as endings
 use Rattle.fh_queues.specs.Asks.{Ask}
 use Rattle.fh_queues.specs.Asks as asks
 use Rattle.fh_queues.specs.Rows.{is_of, is_live, is_visible, live, row_of}
-use Rattle.fh_queues.specs.Part.{QueuePart, after, expiry_after, row_of_put, taken_items, renewed, with_item}
+use Rattle.fh_queues.specs.Part.{QueuePart, after, expiry_after, row_of_put, taken_items, renewed}
 use Rattle.fh_queues.specs.Outcome.{Outcome, outcome}
 use Rattle.fh_queues.specs.Accounts.{standing}
 use Rattle.fh_queues.specs.Receipts.{item_of}
@@ -161,17 +159,17 @@ come_ways part m n later none =
       puts = λ queue delay ttl text about found.
           let new = row_of_put part m queue delay ttl text about in
           elim (row_of-push_was n rows new later found) [
-            inl before ↦ absurd (stands rows fewer before)
-          | inr is ↦
-              let mine : part.next_number ≡ n = ap (λ (r : Message). r.number) (sym is) ∙ row_of-number n (rows ++ new ∷ []) later found in
-              record {
-                number = mine;
-                queue = ap (λ (r : Message). r.queue) is;
-                expiry = ap (λ (r : Message). r.expiry) is;
-                unheld = ap own_hold is;
-                unlisted = refl;
-                born = grind (arith, nat_tests);
-              }
+            | inl before ↦ absurd (stands rows fewer before)
+            | inr is ↦
+                let mine : part.next_number ≡ n = ap (λ (r : Message). r.number) (sym is) ∙ row_of-number n (rows ++ new ∷ []) later found in
+                record {
+                  number = mine;
+                  queue = ap (λ (r : Message). r.queue) is;
+                  expiry = ap (λ (r : Message). r.expiry) is;
+                  unheld = ap own_hold is;
+                  unlisted = refl;
+                  born = grind (arith, nat_tests);
+                }
           ];
       finds_none = λ queue count hold found. absurd (stands part.rows (omega arith) found);
       takes = λ queue count hold found. absurd (stands _ (omega (arith, fewer, standing-with_items n (after m hold) (taken_items part.next_receipt (chosen part m queue count)) rows)) found);
@@ -207,7 +205,7 @@ hold_ways part m n none =
       updates = λ queue number receipt hold text named.
           by_test (number == n) (after m hold)
           (λ same. let is : number ≡ n = grind (arith, nat_tests) in
-              omega (arith, none, subst (λ (k : ℕ). 1 ≤ standing k (live m part.rows)) is (standing-row_in queue number m part.rows named.row named.stands), standing-filter-le n (is_live m) part.rows));
+          omega (arith, none, subst (λ (k : ℕ). 1 ≤ standing k (live m part.rows)) is (standing-row_in queue number m part.rows named.row named.stands), standing-filter-le n (is_live m) part.rows));
       deletes = λ queue number receipt named. refl;
       clears_none = λ queue is. refl;
       clears = λ queue. refl;

@@ -1,6 +1,6 @@
 -- Each message is in one place, which the world tells.
-use Rattle.std.proofs.Common.{◌≡◌, ℕ, ◌+◌, ◌≤◌, Bool, true, false, not, List, [], ◌∷◌, Option, Some, None, is_some, refl, sym, ◌∙◌, ap, subst, arith}
-use Rattle.std.specs.Prelude.{◌==◌, ◌&&◌, ◌||◌, nat_le, nat_lt, if◌then◌else◌}
+use Rattle.std.proofs.Common.{◌≡◌, ℕ, ◌+◌, ◌≤◌, Bool, true, false, not, List, [], ◌∷◌, Option, Some, None, is_some, refl, sym, ◌∙◌, ap, arith}
+use Rattle.std.specs.Prelude.{◌&&◌, ◌||◌, nat_le, nat_lt, if◌then◌else◌}
 use Rattle.std.proofs.lemmas.Bool.Decides.{nat_tests}
 use Rattle.fh_event.specs.declared.reply.Place.{Place}
 use Rattle.fh_event.specs.declared.reply.Place.TheVariants as place
@@ -10,8 +10,8 @@ use Rattle.fh_queues.specs.declared.done.Ending.{Ending}
 use Rattle.fh_queues.specs.declared.done.Ending.TheVariants as endings
 use Rattle.fh_queues.specs.Rows.{is_before, is_live, row_of, live_row}
 use Rattle.fh_queues.specs.Accounts.{standing, gone}
-use Rattle.fh_queues.specs.Ends.{is_deletion, is_expiry, passes, was_deleted, was_expired}
-use Rattle.fh_queues.specs.Places.{place_of_row, place_of_live, place_of_ending, place_by, place_of, end_of}
+use Rattle.fh_queues.specs.Ends.{is_deletion, is_expiry, passes, was_expired}
+use Rattle.fh_queues.specs.Places.{place_of_live, place_of_ending, place_by, place_of, end_of}
 use Rattle.fh_queues.proofs.Standing.{standing-cons}
 use Rattle.fh_queues.proofs.Finding.{standing-row_of, standing-none}
 use Rattle.fh_queues.proofs.Receipts.{one_row}
@@ -21,7 +21,6 @@ use Rattle.fh_hub.specs.Replay.{Entry, Event, trace, replay}
 use Rattle.fh_hub.specs.Laws.{births}
 use Rattle.fh_hub.specs.Places.{expiry_by, expiry_of, queue_of, last_hold, ends_after, waits, is_waiting, is_held, was_removed, has_expired, one_if, places, IsInOnePlace, IsPlace, IsLocated}
 use Rattle.fh_hub.proofs.Births.{unborn}
-use Rattle.fh_hub.proofs.Holds.{own_hold}
 use Rattle.fh_hub.proofs.Told.{Told, expired_later, told}
 
 live_row-none : (n t : ℕ) (rows : List Message) → standing n rows ≡ 0 → live_row n t rows ≡ None

@@ -1,9 +1,8 @@
 -- Over more entries, a message's receipt only rises; and events of legal histories act at their own moments.
-use Rattle.std.proofs.Common.{◌≡◌, ℕ, ◌+◌, ◌≤◌, ◌<◌, ◌⊎◌, inl, inr, List, [], ◌∷◌, ◌++◌, Option, Some, None, refl, sym, ◌∙◌, ap, subst, arith}
+use Rattle.std.proofs.Common.{◌≡◌, ℕ, ◌≤◌, ◌<◌, inl, inr, List, [], ◌∷◌, ◌++◌, Option, Some, None, refl, sym, ◌∙◌, ap, subst, arith}
 use Rattle.std.specs.List.{All}
 use Rattle.std.proofs.lemmas.List.Elements.{All-nil, All-cons, All-append}
 use Rattle.fh_event.specs.declared.command.Command.{Command}
-use Rattle.fh_event.specs.declared.reply.Reply.{Reply}
 use Rattle.fh_queues.specs.declared.row.Message.{Message}
 use Rattle.fh_queues.specs.Rows.{row_of}
 use Rattle.fh_queues.specs.Receipts.{Rises}
@@ -13,7 +12,7 @@ use Rattle.fh_hub.specs.World.{World, empty, Stepped, Refused, Read, Quieted, Re
 use Rattle.fh_hub.specs.Replay.{Entry, Event, event_of, trace_from, trace, after, replay_from, replay, IsLegalFrom, IsLegal}
 use Rattle.fh_hub.specs.Laws.{births}
 use Rattle.fh_hub.specs.Guards.{RisesOver, HasOwnMoment}
-use Rattle.fh_hub.proofs.Steps.{Made, IsKept, event, ask_of, kept_from}
+use Rattle.fh_hub.proofs.Steps.{IsKept, event, ask_of, kept_from}
 use Rattle.fh_hub.proofs.Tallies.{Tallies, tallies_kept, tallies, births-push}
 use Rattle.fh_hub.proofs.Holds.{comes}
 

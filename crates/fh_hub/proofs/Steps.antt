@@ -1,5 +1,5 @@
 -- A recorded step, taken apart, and what holds of all histories because each recorded step keeps it.
-use Rattle.std.proofs.Common.{◌≡◌, ℕ, ◌+◌, Bool, true, false, List, [], ◌∷◌, ◌++◌, Some, None, Ok, length, refl, sym, ◌∙◌, ap, subst, append_assoc, append-nil}
+use Rattle.std.proofs.Common.{◌≡◌, ℕ, ◌+◌, Bool, true, false, List, [], ◌∷◌, ◌++◌, None, Ok, length, refl, sym, ◌∙◌, ap, subst, append_assoc, append-nil}
 use Rattle.std.specs.Prelude.{nat_le, nat_lt, if◌then◌else◌, Result, Err}
 use Rattle.fh_base.specs.Moments.{greatest_moment}
 use Rattle.fh_base.specs.Names.{is_queue_name}
@@ -15,7 +15,7 @@ use Rattle.fh_queues.specs.Asks.{Ask}
 use Rattle.fh_queues.specs.Asks as asks
 use Rattle.fh_queues.specs.Part.{QueuePart}
 use Rattle.fh_queues.specs.Outcome.{Outcome, outcome, peeked, is_quiet}
-use Rattle.fh_hub.specs.World.{World, empty, Stepped, Refused, Read, Quieted, Recorded, Asked, Refuses, Reads, Asks, where_named, peeking, asked, reply_of, most_bytes, world_with, recorded, done_by, joined, carried, step, step_at, effective_moment}
+use Rattle.fh_hub.specs.World.{World, empty, Stepped, Refused, Read, Quieted, Recorded, Asked, Refuses, Reads, Asks, where_named, peeking, asked, reply_of, most_bytes, world_with, recorded, joined, carried, step, step_at, effective_moment}
 use Rattle.fh_hub.specs.Replay.{Entry, Event, world_after, after, replay_from, replay, event_of, trace_from, trace}
 
 -- what a command asks of the queues, where it asks anything

@@ -1,7 +1,6 @@
 -- The queues' accounts, over all histories.
 use Rattle.std.proofs.Common.{◌≡◌, ℕ, ◌+◌, cond, List, [], ◌∷◌, ◌++◌, refl, ◌∙◌, ap}
 use Rattle.std.proofs.lemmas.List.Sums.{sum_by_push}
-use Rattle.fh_event.specs.declared.command.Command.{Command}
 use Rattle.fh_event.specs.declared.reply.Reply.{Reply}
 use Rattle.fh_queues.specs.declared.done.QueueDone.{QueueDone}
 use Rattle.fh_queues.specs.declared.done.QueueDone.TheVariants as done
@@ -10,7 +9,7 @@ use Rattle.fh_queues.proofs.Accounts.{Accounts-outcome, Accounts-same, Accounts-
 use Rattle.fh_hub.specs.World.{World, reply_of}
 use Rattle.fh_hub.specs.Replay.{Entry, Event, trace, replay}
 use Rattle.fh_hub.specs.Laws.{gives, bears, receipts, births}
-use Rattle.fh_hub.proofs.Steps.{Made, IsKept, event, ask_of, kept_by_all}
+use Rattle.fh_hub.proofs.Steps.{IsKept, event, ask_of, kept_by_all}
 
 -- a reply gives out what the queues gave out
 born_of_reply : (n : ℕ) (answer : QueueDone) → cond (bears n (reply_of answer)) 1 0 ≡ born n answer

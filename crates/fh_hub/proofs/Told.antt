@@ -1,6 +1,6 @@
 -- What the rows and ends of a world say of its messages is what the events of its trace say.
-use Rattle.std.proofs.Common.{◌≡◌, ℕ, ◌+◌, ◌≤◌, Bool, true, false, not, ◌⊎◌, inl, inr, List, [], ◌∷◌, ◌++◌, fold, Option, Some, None, Ok, refl, sym, ◌∙◌, ap, subst, arith}
-use Rattle.std.specs.Prelude.{◌==◌, ◌&&◌, ◌||◌, max, nat_lt, nat_le}
+use Rattle.std.proofs.Common.{◌≡◌, ℕ, ◌+◌, ◌≤◌, Bool, true, false, List, [], ◌∷◌, ◌++◌, Option, Some, None, refl, sym, ◌∙◌, ap, subst, arith}
+use Rattle.std.specs.Prelude.{◌==◌, ◌&&◌, ◌||◌}
 use Rattle.std.specs.List.{list_any}
 use Rattle.std.proofs.lemmas.Bool.Decides.{nat_tests}
 use Rattle.std.proofs.lemmas.List.Sums.{fold_push}
@@ -10,23 +10,21 @@ use Rattle.fh_event.specs.declared.command.Command.TheVariants.{MakeQueue, Put, 
 use Rattle.fh_event.specs.declared.reply.Reply.{Reply}
 use Rattle.fh_queues.specs.declared.row.Message.{Message}
 use Rattle.fh_queues.specs.declared.done.End.{End}
-use Rattle.fh_queues.specs.declared.done.QueueDone.{QueueDone}
 use Rattle.fh_queues.specs.Rows.{is_before, is_live, is_dead, row_of}
 use Rattle.fh_queues.specs.Part.{QueuePart}
-use Rattle.fh_queues.specs.Outcome.{Outcome, outcome}
-use Rattle.fh_queues.specs.Accounts.{standing, gone, born}
+use Rattle.fh_queues.specs.Accounts.{standing, gone}
 use Rattle.fh_queues.specs.Places.{end_of}
 use Rattle.fh_queues.specs.Ends.{is_deletion, is_expiry, passes, was_deleted, was_expired, deletes, lapses}
 use Rattle.fh_queues.proofs.Standing.{standing-cons, gone-append}
 use Rattle.fh_queues.proofs.Finding.{row_of-number, standing-row_of, standing-none}
 use Rattle.fh_queues.proofs.Receipts.{one_row}
-use Rattle.fh_queues.proofs.Ends.{so_ended, deletions, expiries, so_ended-append, gone-end_of, Ends-outcome, was_deleted-outcome, was_expired-outcome, lapses_new}
+use Rattle.fh_queues.proofs.Ends.{deletions, expiries, so_ended-append, gone-end_of, Ends-outcome, was_deleted-outcome, was_expired-outcome}
 use Rattle.fh_queues.proofs.Acts.{Acts-outcome}
-use Rattle.fh_hub.specs.World.{World, effective_moment, reply_of}
+use Rattle.fh_hub.specs.World.{World, effective_moment}
 use Rattle.fh_hub.specs.Replay.{Entry, Event, trace, replay}
 use Rattle.fh_hub.specs.Laws.{bears, births}
 use Rattle.fh_hub.specs.Places.{birth_of, expiry_by, queue_by, expiry_of, queue_of, takes_out, removes, hold_by, hold_of, newer, last_hold, was_removed}
-use Rattle.fh_hub.proofs.Steps.{Made, IsKept, event, ask_of, kept_by_all}
+use Rattle.fh_hub.proofs.Steps.{Made, event, ask_of, kept_by_all}
 use Rattle.fh_hub.proofs.Tallies.{Tallies, tallies_kept, births-push}
 use Rattle.fh_queues.proofs.Accounts.{Accounts-none}
 use Rattle.fh_hub.proofs.Births.{birth_now, birth_then}

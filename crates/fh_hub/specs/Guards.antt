@@ -27,8 +27,12 @@ is_acted_on e row = acts_on (acts_at e) e.command e.reply row
 
 -- a message that is live and isn't acted on stays as it is, and one that changes has a newer receipt
 pub record GuardsMessages (e : Event) : Type 0 where
-  pub untouched : (row : Message) → row_of row.number e.before.queues.rows ≡ Some row → is_live (acts_at e) row ≡ true → is_acted_on e row ≡ false → row_of row.number e.after.queues.rows ≡ Some row
-  pub rises : (n : ℕ) (before later : Message) → row_of n e.before.queues.rows ≡ Some before → row_of n e.after.queues.rows ≡ Some later → Rises before later
+  pub untouched :
+      (row : Message) → row_of row.number e.before.queues.rows ≡ Some row → is_live (acts_at e) row ≡ true
+      → is_acted_on e row ≡ false → row_of row.number e.after.queues.rows ≡ Some row
+  pub rises :
+      (n : ℕ) (before later : Message) → row_of n e.before.queues.rows ≡ Some before
+      → row_of n e.after.queues.rows ≡ Some later → Rises before later
 
 -- a message that stands before and after these later entries has the same row, or a newer receipt
 abbrev pub RisesOver : List Entry → List Entry → Type 0

@@ -1,5 +1,5 @@
 -- What the events of a trace give out.
-use Rattle.std.specs.Prelude.{◌≡◌, ℕ, ◌==◌, Bool, false, if◌then◌else◌, List, count_by}
+use Rattle.std.specs.Prelude.{ℕ, ◌==◌, Bool, false, if◌then◌else◌, List, count_by}
 use Rattle.std.specs.List.{sum_by}
 use Rattle.fh_event.specs.declared.reply.Reply.{Reply}
 use Rattle.fh_event.specs.declared.reply.Reply.TheVariants.{Made, There, Stored, Taken, Empty, Updated, Deleted, Cleared, Peeked, Located}
