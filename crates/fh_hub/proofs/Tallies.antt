@@ -4,8 +4,8 @@ use Rattle.std.proofs.lemmas.List.Sums.{sum_by_push}
 use Rattle.fh_event.specs.declared.reply.Reply.{Reply}
 use Rattle.fh_queues.specs.declared.done.QueueDone.{QueueDone}
 use Rattle.fh_queues.specs.declared.done.QueueDone.TheVariants as done
-use Rattle.fh_queues.specs.Accounts.{Accounts, born, given}
-use Rattle.fh_queues.proofs.Accounts.{Accounts-outcome, Accounts-same, Accounts-none}
+use Rattle.fh_queues.specs.Accounts.{born, given}
+use Rattle.fh_queues.proofs.Accounts.{Accounts, Accounts-outcome, Accounts-same, Accounts-none}
 use Rattle.fh_hub.specs.World.{World, reply_of}
 use Rattle.fh_hub.specs.Replay.{Entry, Event, trace, replay}
 use Rattle.fh_hub.specs.Laws.{gives, bears, receipts, births}
