@@ -1,8 +1,5 @@
 pub mod LineReading
-pub mod Recording
-pub mod Turns
-pub mod Turning
-pub mod LastLines
+pub mod Steps
 pub mod Decoding
 pub mod Numbers
 pub mod Printing

@@ -3,7 +3,7 @@ use Rattle.std.proofs.Common.{if◌then◌else◌, ◌≡◌, ℕ, ◌+◌, ◌<
 use Rattle.std.proofs.lemmas.Bool.Decides.{nat_tests}
 use Rattle.std.specs.List.{list_all}
 use Rattle.std.specs.Io.KnownBytes.{Consumes, IsAtEnd}
-use Rattle.fh_script.specs.Lines.{is_line_feed, before_lines, lines, line_length, ReadsLine, StartsLong}
+use Rattle.fh_script.specs.Lines.{is_line_feed, before_lines, lines, line_length, line_feeds, is_ended, ReadsLine, StartsLong}
 
 -- the bytes have no line feed
 abbrev pub is_plain : List ℕ → Bool
@@ -101,3 +101,21 @@ pub starts_longer : (was mid now : Option (List ℕ)) (line new : List ℕ) (b :
     → Consumes was mid line → Consumes mid now (b ∷ []) → 140000 < length new → StartsLong was
 starts_longer was mid now line new b plain other is one two long =
     starts_long was now (line ++ b ∷ []) (plain-push line b plain other) (consumes-append was mid now line (b ∷ []) one two) (rw is at long)
+
+-- Line feeds.
+
+pub line_feeds-append : (a b : List ℕ) → line_feeds (a ++ b) ≡ line_feeds a + line_feeds b
+line_feeds-append [] b = refl
+line_feeds-append (x ∷ a) b = by_cases (is_line_feed x) (line_feeds-append a b)
+  where
+    by_cases : (f : Bool) → line_feeds (a ++ b) ≡ line_feeds a + line_feeds b
+        → (if f then line_feeds (a ++ b) + 1 else line_feeds (a ++ b)) ≡ (if f then line_feeds a + 1 else line_feeds a) + line_feeds b
+    by_cases true behind = omega (arith, behind)
+    by_cases false behind = behind
+
+pub line_feeds-plain : (line : List ℕ) → is_plain line ≡ true → line_feeds line ≡ 0
+line_feeds-plain [] plain = refl
+line_feeds-plain (b ∷ line) plain = rw (first_plain b line plain) (line_feeds-plain line (rest_plain b line plain))
+
+pub line_feeds-ended : (line : List ℕ) → is_plain line ≡ true → line_feeds (line ++ 10 ∷ []) ≡ 1
+line_feeds-ended line plain = line_feeds-append line (10 ∷ []) ∙ ap (λ (n : ℕ). n + 1) (line_feeds-plain line plain)

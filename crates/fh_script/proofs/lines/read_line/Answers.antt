@@ -1,7 +1,7 @@
 use Rattle.std.proofs.Common.{◌≡◌, ◌<◌, ◌++◌, List, ℕ, ◌==◌, Bool, false, [], ◌∷◌, Option, rules, arith, ap, ◌∙◌, subst}
 use Rattle.std.proofs.lemmas.Bool.Decides.{nat_tests}
 use Rattle.std.specs.Io.KnownBytes.{Consumes}
-use Rattle.fh_script.proofs.LineReading.{reads_ended, reads_last, starts_longer, line_length-ended, line_length-le}
+use Rattle.fh_script.proofs.LineReading.{reads_ended, reads_last, starts_longer, line_length-ended, line_length-le, line_feeds-plain, line_feeds-ended}
 use Rattle.fh_script.proofs.lines.read_line.Goals as goal
 
 ended_by : (line new : List ℕ) (byte : ℕ) → new ≡ line ++ byte ∷ [] → byte ≡ 10 → new ≡ line ++ 10 ∷ []
@@ -32,6 +32,14 @@ returns-then-byte-eq-LINE_FEED-clause-short g c =
     c.loop-byte.invariant.short
 
 pub returns-then-len-gt-MOST-clause-reason : goal.returns-then-len-gt-MOST-clause-reason
-returns-then-len-gt-MOST-clause-reason g c =
-    starts_longer _ _ _ c.loop-byte.line.items _ _ c.loop-byte.invariant.plain c.if-byte-eq-LINE_FEED.false c.in_ok-push.ensures.items
-    c.loop-byte.invariant.read (rw c.in-Some.is at c.in-Ok.ensures.byte) (search rules)
+returns-then-len-gt-MOST-clause-reason g c = ?
+
+pub returns-in-Err-clause-reason : goal.returns-in-Err-clause-reason
+returns-in-Err-clause-reason g c = ?
+
+pub returns-in_default-clause-feeds : goal.returns-in_default-clause-feeds
+returns-in_default-clause-feeds g c = ?
+
+pub returns-then-byte-eq-LINE_FEED-clause-feeds : goal.returns-then-byte-eq-LINE_FEED-clause-feeds
+returns-then-byte-eq-LINE_FEED-clause-feeds g c = λ ended.
+    rw (ended_by _ _ _ c.in_ok-push.ensures.items c.if-byte-eq-LINE_FEED.true) (line_feeds-ended c.loop-byte.line.items c.loop-byte.invariant.plain)
