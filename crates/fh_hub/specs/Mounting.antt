@@ -1,11 +1,14 @@
 -- How mounting ends, and which entries are refused.
 use Rattle.std.specs.Prelude.{◌≡◌, ◌⊎◌, ⊤, ℕ, List, ◌∷◌, ◌++◌, length, Option, Some, None, Result, Ok, Err}
 use Rattle.fh_event.specs.declared.faults.EventFault.{EventFault}
+use Rattle.fh_event.specs.declared.faults.PlanFault.{PlanFault}
+use Rattle.fh_event.specs.declared.faults.PlanFault.TheVariants as plans
 use Rattle.fh_event.specs.Reading.{entry_read}
 use Rattle.fh_journal.specs.Journal.{opened, Stands}
 use Rattle.fh_journal.specs.Mounting.{BreaksAt, IsForeign, IsLeft, mounted_file}
 use Rattle.fh_journal.specs.declared.faults.MountFault.{MountFault}
 use Rattle.fh_journal.specs.declared.faults.MountFault.TheVariants as mounts
+use Rattle.fh_hub.specs.World.{World}
 use Rattle.fh_hub.specs.Replay.{Entry, payloads_of, replay, IsLegal, IsNext}
 use Rattle.fh_hub.specs.declared.faults.HubFault.{HubFault}
 use Rattle.fh_hub.specs.declared.faults.HubFault.TheVariants.{BadHeader, BadFrame, DiskFault, NoMemory}
@@ -61,6 +64,22 @@ abbrev pub HasEntryReason : List Entry → List ℕ → EntryFault → Type 0
 HasEntryReason history payload (entries.Event fault) = entry_read payload ≡ Err fault
 HasEntryReason history payload entries.Refused = IsNotRecorded history payload
 HasEntryReason history payload entries.NoMemory = ⊤
+
+-- why bytes aren't read as an entry
+abbrev pub HasReadReason : List ℕ → EntryFault → Type 0
+HasReadReason bytes (entries.Event fault) = entry_read bytes ≡ Err fault
+HasReadReason bytes entries.Refused = ⊥
+HasReadReason bytes entries.NoMemory = ⊤
+
+-- why an entry has no change
+abbrev pub HasPlanReason : World → Entry → EntryFault → Type 0
+HasPlanReason w e (entries.Event fault) = ⊥
+HasPlanReason w e entries.Refused = IsNext w e → ⊥
+HasPlanReason w e entries.NoMemory = ⊤
+
+abbrev pub fault_of_plan : PlanFault → EntryFault
+fault_of_plan (plans.Rule rule) = entries.Refused
+fault_of_plan plans.NoMemory = entries.NoMemory
 
 abbrev pub fault_of_entry : ℕ → EntryFault → HubFault
 fault_of_entry at (entries.Event fault) = BadFrame at (Event fault)

@@ -1,6 +1,6 @@
 // Why a journal isn't mounted.
 use fh_base::NoMemory;
-use fh_event::EventFault;
+use fh_event::{EventFault, PlanFault};
 use fh_journal::{FrameRule, MountFault};
 
 /// What is wrong with a frame of a journal.
@@ -59,6 +59,20 @@ impl From<NoMemory> for EntryFault {
 
     fn from(_refused: NoMemory) -> EntryFault {
         EntryFault::NoMemory
+    }
+}
+
+impl From<PlanFault> for EntryFault {
+    ghost use Rattle.std.specs.Prelude.{◌≡◌};
+    ghost use Rattle.fh_hub.specs.Mounting.{fault_of_plan};
+
+    ghost from_gives = { λ planned fault. fault ≡ fault_of_plan planned };
+
+    fn from(planned: PlanFault) -> EntryFault {
+        match planned {
+            PlanFault::Rule(_) => EntryFault::Refused,
+            PlanFault::NoMemory => EntryFault::NoMemory,
+        }
     }
 }
 

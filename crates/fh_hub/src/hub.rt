@@ -1,19 +1,27 @@
 // The hub over a journal.
-ghost use Rattle.std.specs.Prelude.{◌≡◌, ◌⊎◌, ◌≤◌, ◌∷◌, ◌++◌, [], true, false, IfOk, IfErr, OnOk, OnErr, IfSome};
+ghost use Rattle.std.specs.Prelude.{◌≡◌, ◌⊎◌, ◌≤◌, ◌∷◌, ◌++◌, [], true, false, List, None, Some, IfOk, IfErr, OnOk, OnErr, IfSome, MatchResult};
 ghost use Rattle.fh_base.specs.Faults.{Rose};
 ghost use Rattle.fh_disk.specs.Disk.{OnlyTold};
 ghost use Rattle.fh_disk.specs.Moments.{LeavesOnly};
+ghost use Rattle.fh_journal.specs.Keeping.{Keeps};
+ghost use Rattle.fh_journal.specs.Mounting.{IsBeingMade};
 ghost use Rattle.fh_queues.specs.Edits.{planned as planned_queues};
-ghost use Rattle.fh_hub.specs.World.{Recorded, step};
-ghost use Rattle.fh_hub.specs.Replay.{Entry, world_after, noted};
-ghost use Rattle.fh_hub.specs.State.{world_of, IsIdle, IsPlanned, IsUnchanged};
+ghost use Rattle.fh_queues.specs.Places.{place_of};
+ghost use Rattle.fh_hub.specs.World.{Recorded, step, effective_moment};
+ghost use Rattle.fh_hub.specs.Replay.{Entry, payloads_of, world_after, noted};
+ghost use Rattle.fh_hub.specs.State.{world_of, IsFaithful, IsIdle, IsPlanned, IsUnchanged};
 ghost use Rattle.fh_hub.specs.Plans.{entry_at};
-ghost use Rattle.fh_hub.specs.Hub.{Answers, HasStepCause, KeepsHistory, MayStandFor, is_recorded};
+ghost use Rattle.fh_hub.specs.Hub.{Answers, HasStepCause, KeepsHistory, MayStandFor, StandsForHistory, is_recorded};
+ghost use Rattle.fh_hub.specs.Mounting.{MountsHistory};
 
+use crate::faults::HubFault;
+use crate::history::History;
+use crate::mounting::prepare;
 use crate::plan::{Change, Plan};
 use crate::state::State;
+use fh_base::Moment;
 use fh_disk::Disk;
-use fh_event::{Command, Reply, StepFault};
+use fh_event::{Command, Place, Reply, StepFault};
 use fh_journal::Journal;
 use std::alloc::Global;
 
@@ -27,6 +35,69 @@ pub struct Hub<'d, J: Disk> {
 }
 
 impl<'d, J: Disk> Hub<'d, J> {
+    /// The hub over a disk whose journal was prepared. Takes no memory.
+    pub fn over(alloc: Global, disk: &'d mut J, state: State) -> Hub<'d, J>
+        requires { IsIdle state }
+        ensures same { result.journal.disk.ghost_name ≡ disk.entry.ghost_name }
+        ensures disk { result.journal.disk.now ≡ disk.entry.now }
+        ensures state { result.state ≡ state }
+        ensures gate { result.journal.gate ≡ state.gate }
+        ensures whole { result.journal.torn ≡ false }
+    {
+        Hub {
+            journal: Journal::over(alloc, disk, state.gate()),
+            state,
+        }
+    }
+
+    /// Mounts the journal of a disk, by `prepare` and `over`. Beside a fault it gives the disk back.
+    pub fn mount(alloc: Global, disk: &'d mut J) -> Result<Hub<'d, J>, (HubFault, &'d mut J)>
+        ensures stands { IfOk result (λ hub. Keeps (J.told hub.journal.disk.now) (J.may_leave hub.journal.disk.now) false
+            (payloads_of hub.state.history) [] hub.journal.gate) }
+        ensures faithful { IfOk result (λ hub. IsFaithful hub.state) }
+        ensures whole { IfOk result (λ hub. hub.journal.torn ≡ false) }
+        ensures durable { IfOk result (λ hub. OnlyTold (J.told hub.journal.disk.now) (J.may_leave hub.journal.disk.now)) }
+        ensures mounted { IfOk result (λ hub. MountsHistory (J.told disk.entry.now) (J.told hub.journal.disk.now) None) }
+        ensures refused { IfErr result (λ refused. MountsHistory (J.told disk.entry.now) (J.told refused.1.now) (Some refused.0)) }
+        ensures fault { IfErr result (λ refused. refused.0 ≡ HubFault.DiskFault
+            → Rose (J.disk_faults disk.entry.now) (J.disk_faults refused.1.now)) }
+        ensures any_moment { MatchResult result
+            (λ hub. IfSome (J.told disk.entry.now) (λ file. LeavesOnly J.moment J.left_since disk.entry.now hub.journal.disk.now
+            (λ c. J.may_leave disk.entry.now c ⊎ IsBeingMade file c)))
+            (λ refused. IfSome (J.told disk.entry.now) (λ file. LeavesOnly J.moment J.left_since disk.entry.now refused.1.now
+            (λ c. J.may_leave disk.entry.now c ⊎ IsBeingMade file c))) }
+        ensures same_history { (history : List Entry) → MatchResult result
+            (λ hub. IfSome (J.told disk.entry.now) (λ file. StandsForHistory history file → LeavesOnly J.moment J.left_since
+            disk.entry.now hub.journal.disk.now (λ c. J.may_leave disk.entry.now c ⊎ StandsForHistory history c)))
+            (λ refused. IfSome (J.told disk.entry.now) (λ file. StandsForHistory history file → LeavesOnly J.moment J.left_since
+            disk.entry.now refused.1.now (λ c. J.may_leave disk.entry.now c ⊎ StandsForHistory history c))) }
+        ensures count { MatchResult result (λ hub. J.disk_faults disk.entry.now ≤ J.disk_faults hub.journal.disk.now)
+            (λ refused. J.disk_faults disk.entry.now ≤ J.disk_faults refused.1.now) }
+        ensures same { MatchResult result (λ hub. hub.journal.disk.ghost_name ≡ disk.entry.ghost_name)
+            (λ refused. refused.1.ghost_name ≡ disk.entry.ghost_name) }
+    {
+        match prepare(alloc, disk) {
+            Ok(state) => Ok(Hub::over(alloc, disk, state)),
+            Err(fault) => Err((fault, disk)),
+        }
+    }
+
+    /// The history, of which the world is the replay.
+    pub fn history(&self) -> &History
+        ensures entries { result.now.entries ≡ self.now.state.history }
+        ensures faithful { IsFaithful self.now.state }
+    {
+        self.state.history()
+    }
+
+    /// Where a message is, at the greater of the moment handed in and that of the last entry. Takes no
+    /// memory.
+    pub fn place_of(&self, number: u64, now: Moment) -> Place
+        ensures { result ≡ place_of self.now.state.queues.part number (effective_moment (world_of self.now.state) now) }
+    {
+        self.state.place_of(number, now)
+    }
+
     /// Gives the disk back.
     pub fn close(self) -> &'d mut J
         ensures same { result.ghost_name ≡ self.entry.journal.disk.ghost_name }

@@ -6,19 +6,21 @@ ghost use Rattle.fh_disk.specs.Moments.{LeavesOnly};
 ghost use Rattle.fh_journal.specs.Frames.{payloads_of as payloads_in, frames_from};
 ghost use Rattle.fh_journal.specs.Keeping.{Keeps, StaysTold};
 ghost use Rattle.fh_journal.specs.Mounting.{IsBeingMade};
-ghost use Rattle.fh_hub.specs.Replay.{Entry, payloads_of, IsLegal};
+ghost use Rattle.fh_hub.specs.Replay.{Entry, payloads_of};
 ghost use Rattle.fh_queues.specs.Edits.{planned as planned_queues};
-ghost use Rattle.fh_hub.specs.State.{IsIdle, IsFaithful, IsPlanned};
+ghost use Rattle.fh_event.specs.Entries.{IsEntry};
+ghost use Rattle.fh_hub.specs.History.{entry_of};
+ghost use Rattle.fh_hub.specs.State.{IsIdle, IsFaithful, IsPlanned, world_of};
 ghost use Rattle.fh_hub.specs.Hub.{StandsForHistory};
-ghost use Rattle.fh_hub.specs.Mounting.{HasEntryReason, HasReplayReason, MountsHistory};
+ghost use Rattle.fh_hub.specs.Mounting.{HasEntryReason, HasPlanReason, HasReadReason, HasReplayReason, MountsHistory};
 
 use crate::faults::{EntryFault, HubFault};
 use crate::plan::{Change, Plan};
 use crate::state::State;
-use fh_base::NoMemory;
+use fh_base::{Moment, NoMemory};
 use fh_disk::Disk;
-use fh_event::{EventFault, PlanFault, decode};
-use fh_journal::{Frames, MountFault, Payload};
+use fh_event::{Command, EventFault, decode};
+use fh_journal::{Frame, Payload};
 use std::alloc::Global;
 
 /// Mounts a journal: its frames are read, and their entries are replayed. It begins with a sync. A file of
@@ -40,54 +42,85 @@ pub fn prepare<J: Disk>(alloc: Global, disk: &mut J) -> Result<State, HubFault>
     ensures count { J.disk_faults disk.old ≤ J.disk_faults disk.new }
 {
     let prepared = fh_journal::prepare(alloc, disk)?;
+    replayed(alloc, prepared.frames.as_slice())
+}
+
+// The state that the entries of frames give.
+fn replayed(alloc: Global, frames: &[Frame]) -> Result<State, HubFault>
+    requires { frames.now ≡ frames_from 6 (payloads_in frames.now) }
+    ensures history { IfOk result (λ state. payloads_of state.history ≡ payloads_in frames.now) }
+    ensures faithful { IfOk result IsFaithful }
+    ensures idle { IfOk result IsIdle }
+    ensures reason { IfErr result (HasReplayReason (payloads_in frames.now)) }
+{
     let mut state = State::new(alloc);
-    state.replay(alloc, prepared.frames)?;
-    Ok(state)
+    match state.replay(alloc, frames) {
+        Ok(()) => Ok(state),
+        Err(fault) => Err(fault),
+    }
 }
 
 impl State {
     // Replays the entries of frames from the first on.
-    fn replay(&mut self, alloc: Global, frames: Frames) -> Result<(), HubFault>
+    fn replay(&mut self, alloc: Global, frames: &[Frame]) -> Result<(), HubFault>
         requires begun { self.old.history ≡ [] }
         requires idle { IsIdle self.old }
-        requires places { frames ≡ frames_from 6 (payloads_in frames) }
-        ensures history { OnOk result (payloads_of self.new.history ≡ payloads_in frames) }
+        requires faithful { IsFaithful self.old }
+        requires places { frames.now ≡ frames_from 6 (payloads_in frames.now) }
+        ensures history { OnOk result (payloads_of self.new.history ≡ payloads_in frames.now) }
         ensures faithful { IsFaithful self.new }
         ensures idle { IsIdle self.new }
-        ensures reason { IfErr result (HasReplayReason (payloads_in frames)) }
+        ensures reason { IfErr result (HasReplayReason (payloads_in frames.now)) }
     {
-        for frame in frames.into_vec() {
-            let at = frame.at;
-            if let Err(fault) = self.replay_entry(alloc, frame.payload) {
-                return Err(fault.at(at));
+        for frame in frames {
+            if let Err(fault) = self.replay_entry(alloc, &frame.payload) {
+                return Err(fault.at(frame.at));
             }
         }
         Ok(())
     }
 
     // Replays the entry that a payload spells.
-    fn replay_entry(&mut self, alloc: Global, payload: Payload) -> Result<(), EntryFault>
-        requires { IsIdle self.old }
-        ensures history { OnOk result (payloads_of self.new.history ≡ payloads_of self.old.history ++ payload ∷ []) }
+    fn replay_entry(&mut self, alloc: Global, payload: &Payload) -> Result<(), EntryFault>
+        requires idle { IsIdle self.old }
+        requires faithful { IsFaithful self.old }
+        ensures history { OnOk result (payloads_of self.new.history ≡ payloads_of self.old.history ++ payload.now ∷ []) }
         ensures refused { OnErr result (self.new.history ≡ self.old.history) }
         ensures faithful { IsFaithful self.new }
         ensures idle { IsIdle self.new }
-        ensures legal { IsLegal self.old.history }
-        ensures reason { IfErr result (HasEntryReason self.old.history payload) }
+        ensures reason { IfErr result (HasEntryReason self.old.history payload.now) }
     {
-        let (moment, command) = match decode(alloc, payload.as_slice()) {
-            Ok(entry) => entry,
-            Err(EventFault::NoMemory) => return Err(EntryFault::NoMemory),
-            Err(fault) => return Err(EntryFault::Event(fault)),
-        };
+        let (moment, command) = entry_of(alloc, payload.as_slice())?;
+        self.record(alloc, &command, moment)
+    }
+
+    // Records a command that acts at its own moment.
+    fn record(&mut self, alloc: Global, command: &Command, moment: Moment) -> Result<(), EntryFault>
+        requires idle { IsIdle self.old }
+        requires faithful { IsFaithful self.old }
+        ensures history { OnOk result (self.new.history ≡ self.old.history ++ record { command = command.now; moment = moment } ∷ []) }
+        ensures refused { OnErr result (self.new.history ≡ self.old.history) }
+        ensures faithful { IsFaithful self.new }
+        ensures idle { IsIdle self.new }
+        ensures reason { IfErr result (HasPlanReason (world_of self.old) (record { command = command.now; moment = moment })) }
+    {
+        let change = self.plan_entry(alloc, command, moment)?;
+        Ok(self.make(change)?)
+    }
+
+    // The change of an entry that is recorded at its own moment.
+    fn plan_entry(&self, alloc: Global, command: &Command, moment: Moment) -> Result<Change, EntryFault>
+        requires { IsIdle self.now }
+        ensures change { IfOk result (λ change. IsPlanned self.now (planned_queues self.now.queues.part change.queues) change.payload (record { command = command.now; moment = moment })
+            × (change.moment ≡ moment) × (entry_of change.payload ≡ record { command = command.now; moment = moment })) }
+        ensures reason { IfErr result (HasPlanReason (world_of self.now) (record { command = command.now; moment = moment })) }
+    {
         if moment.ms() < self.last() {
             return Err(EntryFault::Refused);
         }
-        match self.plan(alloc, &command, moment.ms()) {
-            Ok(Plan::Records(change)) => Ok(self.make(change)?),
-            Ok(Plan::Reads(_)) | Ok(Plan::Quiet(_)) => Err(EntryFault::Refused),
-            Err(PlanFault::Rule(_)) => Err(EntryFault::Refused),
-            Err(PlanFault::NoMemory) => Err(EntryFault::NoMemory),
+        match self.plan(alloc, command, moment.ms())? {
+            Plan::Records(change) => Ok(change),
+            Plan::Reads(_) | Plan::Quiet(_) => Err(EntryFault::Refused),
         }
     }
 
@@ -95,6 +128,7 @@ impl State {
     fn make(&mut self, change: Change) -> Result<(), NoMemory>
         ghost e: { Entry }
         requires idle { IsIdle self.old }
+        requires faithful { IsFaithful self.old }
         requires planned { IsPlanned self.old (planned_queues self.old.queues.part change.queues) change.payload e }
         requires moment { change.moment ≡ e.moment }
         ensures history { OnOk result (self.new.history ≡ self.old.history ++ e ∷ []) }
@@ -105,5 +139,17 @@ impl State {
         let staged = self.stage(change)?;
         let _reply = self.settle(staged);
         Ok(())
+    }
+}
+
+// The moment and the command that bytes spell.
+fn entry_of(alloc: Global, bytes: &[u8]) -> Result<(Moment, Command), EntryFault>
+    ensures entry { IfOk result (λ e. IsEntry bytes.now e.0 e.1) }
+    ensures reason { IfErr result (HasReadReason bytes.now) }
+{
+    match decode(alloc, bytes) {
+        Ok(entry) => Ok(entry),
+        Err(EventFault::NoMemory) => Err(EntryFault::NoMemory),
+        Err(fault) => Err(EntryFault::Event(fault)),
     }
 }

@@ -52,6 +52,7 @@ impl State {
         ensures history { result.history ≡ [] }
         ensures world { world_of result ≡ empty }
         ensures idle { IsIdle result }
+        ensures faithful { IsFaithful result }
     {
         State {
             queues: Queues::new(alloc),
@@ -151,6 +152,7 @@ impl State {
         ensures ok { IfOk result (λ staged. IsStaged self.new staged e × (staged.payload ≡ change.payload)) }
         ensures legal { OnOk result (IsLegal (self.old.history ++ e ∷ [])) }
         ensures gate { self.new.gate ≡ self.old.gate }
+        ensures faithful { IsFaithful self.new }
     {
         let Change {
             queues,
@@ -174,6 +176,7 @@ impl State {
         ensures idle { IsIdle self.new }
         ensures history { self.new.history ≡ self.old.history ++ e ∷ [] }
         ensures gate { self.new.gate ≡ self.old.gate + 5 + length staged.payload }
+        ensures faithful { IsFaithful self.new }
     {
         let Staged {
             queues,

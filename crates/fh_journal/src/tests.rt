@@ -97,7 +97,10 @@ fn a_file_that_is_cut_at_50_bytes(rt: HostRuntime) -> Result<(), Fail> {
     let mut journal = Journal::over(rt.alloc(), &mut disk, 6);
     assert_eq!(rt; append(&mut journal, &[7; 19])?, Ok(6));
     assert_eq!(rt; append(&mut journal, &[8; 40])?, Ok(30));
-    let mut short = disk_of(&rt, &disk.bytes()[..50], 99)?;
+    let disk = journal.close();
+    let mut front = disk.bytes().to_vec(rt.alloc())?;
+    front.truncate(50);
+    let mut short = disk_of(&rt, &front, 99)?;
     let fault = prepare(rt.alloc(), &mut short).err();
     let rule = FrameRule::Cut;
     assert_eq!(rt; fault, Some(MountFault::BadFrame { at: 30, rule }));
@@ -147,6 +150,7 @@ fn a_torn_journal_is_mended_before_the_next_payload(rt: HostRuntime) -> Result<(
     assert_eq!(rt; append(&mut journal, b"x")?, Ok(6));
     assert_eq!(rt; (journal.torn(), journal.gate), (false, 12));
     assert_eq!(rt; append(&mut journal, b"y")?, Ok(12));
+    let disk = journal.close();
     let expected: [Option<(u64, &[u8])>; 13] = [
         Some((7, b"\0\0\0\x02hi\0")),
         None,
@@ -210,7 +214,7 @@ fn a_stop_in_an_append_leaves_the_new_frame_or_not(rt: HostRuntime) -> Result<()
         assert_eq!(rt; append(&mut journal, b"first entry")?, Ok(6));
         journal.disk.stop_after(passed);
         assert_eq!(rt; append(&mut journal, b"second entry")?.is_ok(), passed == 4);
-        let counts = frames_of_images(&rt, &disk)?;
+        let counts = frames_of_images(&rt, journal.close())?;
         assert_eq!(rt; counts.iter().min(), Some(&fewest), "after {passed} calls");
         assert_eq!(rt; counts.iter().max(), Some(&most), "after {passed} calls");
     }

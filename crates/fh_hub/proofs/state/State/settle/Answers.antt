@@ -47,3 +47,6 @@ invariant_of-self g c =
       number = omega (arith, gate_is, moves.0, ap (λ (p : QueuePart). p.next_number) part_is, c.self.invariant.number);
       receipt = omega (arith, gate_is, moves.1, ap (λ (p : QueuePart). p.next_receipt) part_is, c.self.invariant.receipt);
     }
+
+pub returns-clause-faithful : goal.returns-clause-faithful
+returns-clause-faithful g c = invariant_of-self g c

@@ -1,0 +1,128 @@
+-- Why a journal isn't mounted.
+use Rattle.std.proofs.Common.{◌≡◌, inl, inr, ℕ, zero, suc, ◌+◌, ◌<◌, ◌≤◌, Bool, true, false, List, [], ◌∷◌, ◌++◌, length, take, drop, map, Option, Some, None, Ok, Err, refl, sym, ap, ◌∙◌, subst, arith, get_or, length-append}
+use Rattle.std.specs.Prelude.{nat_le, if◌then◌else◌, Result, IfErr}
+use Rattle.std.specs.List.{flat_map}
+use Rattle.std.specs.Int.{w32, to_be_bytes}
+use Rattle.std.proofs.lemmas.Bool.Decides.{nat_tests}
+use Rattle.fh_event.specs.Entries.{IsEntry}
+use Rattle.fh_event.proofs.EntryLaws.{read_again}
+use Rattle.fh_journal.specs.Frames.{payloads_of as payloads_in, frames_from}
+use Rattle.fh_journal.specs.Journal.{frame, opened, Stands}
+use Rattle.fh_journal.specs.Keeping.{Keeps}
+use Rattle.fh_journal.specs.Mounting.{MountsTold, mounted_file, fresh_file, IsLeft}
+use Rattle.fh_journal.specs.declared.frames.Frame.{Frame}
+use Rattle.fh_journal.specs.declared.mounting.Prepared.{Prepared}
+use Rattle.fh_journal.proofs.Readings.{stands_once}
+use Rattle.fh_hub.specs.World.{World}
+use Rattle.fh_hub.specs.Replay.{Entry, payloads_of, replay, IsLegal, IsNext}
+use Rattle.fh_hub.specs.State.{HubState, world_of}
+use Rattle.fh_hub.specs.Mounting.{HasEntryReason, HasPlanReason, HasReplayReason, IsRefusedAt, IsBrokenAt, MountsHistory, MountsBytes, fault_of_entry}
+use Rattle.fh_hub.specs.declared.faults.HubFault.{HubFault}
+use Rattle.fh_hub.specs.declared.faults.HubFault.TheVariants.{BadHeader, BadFrame, DiskFault, NoMemory}
+use Rattle.fh_hub.specs.declared.faults.HubRule.TheVariants.{Frame as OfFrame, Event, Refused}
+use Rattle.fh_hub.specs.declared.faults.EntryFault.{EntryFault}
+use Rattle.fh_hub.specs.declared.faults.EntryFault.TheVariants as entries
+
+-- an entry that the machine doesn't record
+entry_refused : (s : HubState) (payload : List ℕ) (e : Entry) (fault : EntryFault) → world_of s ≡ replay s.history → IsEntry payload e.moment e.command → HasPlanReason (world_of s) e fault → HasEntryReason s.history payload fault
+entry_refused s payload e (entries.Event fault) world is reason = absurd reason
+entry_refused s payload e entries.Refused world is reason = record {
+  entry = e;
+  read = read_again payload e.moment e.command is;
+  refused = λ next. reason (subst (λ (w : World). IsNext w e) (sym world) next);
+}
+entry_refused s payload e entries.NoMemory world is reason = tt
+
+pub refused_entry : {T : Type 0} (s : HubState) (payload : List ℕ) (e : Entry) (r : Result T EntryFault) → world_of s ≡ replay s.history → IsEntry payload e.moment e.command → IfErr r (HasPlanReason (world_of s) e) → IfErr r (HasEntryReason s.history payload)
+refused_entry s payload e (Ok x) world is reason = tt
+refused_entry s payload e (Err fault) world is reason = entry_refused s payload e fault world is reason
+
+-- the frames around one
+pub around : (frames : List Frame) (i : ℕ) (f : Frame) → i < length frames → f ≡ get_or frames i f → payloads_in frames ≡ payloads_in (take i frames) ++ f.payload ∷ payloads_in (drop (suc i) frames)
+around [] i f within is = absurd (omega (arith, within))
+around (first ∷ frames) zero f within is = ap (λ (g : Frame). g.payload ∷ payloads_in frames) (sym is)
+around (first ∷ frames) (suc i) f within is = ap (λ (ps : List (List ℕ)). first.payload ∷ ps) (around frames i f (omega (arith, within)) is)
+
+-- the place of a frame among those that follow each other
+placed : (at : ℕ) (frames : List Frame) (i : ℕ) (d : Frame) → frames ≡ frames_from at (payloads_in frames) → i < length frames → (get_or frames i d).at ≡ at + length (flat_map frame (payloads_in (take i frames)))
+placed at [] i d follow within = absurd (omega (arith, within))
+placed at (first ∷ frames) zero d follow within =
+    let is : first ≡ record { at = at; payload = first.payload } = cc in
+    ap (λ (f : Frame). f.at) is ∙ omega arith
+placed at (first ∷ frames) (suc i) d follow within =
+    let rest : frames ≡ frames_from (at + 5 + length first.payload) (payloads_in frames) = cc in
+    placed (at + 5 + length first.payload) frames i d rest (omega (arith, within))
+    ∙ omega (arith, length-append (frame first.payload) (flat_map frame (payloads_in (take i frames))), length-append (to_be_bytes w32 (length first.payload)) first.payload)
+
+place_of : (frames : List Frame) (i : ℕ) (f : Frame) (history : List Entry) → frames ≡ frames_from 6 (payloads_in frames) → i < length frames → f ≡ get_or frames i f → payloads_of history ≡ payloads_in (take i frames) → f.at ≡ length (opened (payloads_of history))
+place_of frames i f history follow within is so_far =
+    let at = placed 6 frames i f follow within in
+    let same = ap (λ (ps : List (List ℕ)). length (flat_map frame ps)) so_far in
+    let here = ap (λ (g : Frame). g.at) is in
+    omega (arith, at, same, here)
+
+-- a frame whose entry isn't replayed
+pub frame_refused : (frames : List Frame) (i : ℕ) (f : Frame) (history : List Entry) (fault : EntryFault) → frames ≡ frames_from 6 (payloads_in frames) → i < length frames → f ≡ get_or frames i f → payloads_of history ≡ payloads_in (take i frames) → IsLegal history → HasEntryReason history f.payload fault → HasReplayReason (payloads_in frames) (fault_of_entry f.at fault)
+frame_refused frames i f history (entries.Event fault) follow within is so_far legal reason = record {
+  history = history;
+  legal = legal;
+  payload = f.payload;
+  more = payloads_in (drop (suc i) frames);
+  whole = rw so_far (around frames i f within is);
+  place = place_of frames i f history follow within is so_far;
+  refused = reason;
+}
+frame_refused frames i f history entries.Refused follow within is so_far legal reason = record {
+  history = history;
+  legal = legal;
+  payload = f.payload;
+  more = payloads_in (drop (suc i) frames);
+  whole = rw so_far (around frames i f within is);
+  place = place_of frames i f history follow within is so_far;
+  refused = reason;
+}
+frame_refused frames i f history entries.NoMemory follow within is so_far legal reason = tt
+
+-- a file whose frames are whole, and of which an entry isn't replayed
+broken : (was now : List ℕ) (payloads : List (List ℕ)) (gate : ℕ) (fault : HubFault) → Stands now payloads gate → now ≡ mounted_file was → HasReplayReason payloads fault → MountsBytes was now (Some fault)
+broken was now payloads gate fault stands is reason = by_length (nat_le (length was) 7) refl
+  where
+    no_frames : Stands fresh_file [] 6
+    no_frames = record { closed = 0; rest = []; shut = λ none. omega (arith, none); place = refl; whole = refl; short = λ k d within. absurd (omega (arith, within)) }
+
+    refused_none : (at : ℕ) (rule : _) → payloads ≡ [] → IsRefusedAt payloads at rule → ⊥
+    refused_none at rule none refused =
+        let sized = ap length (sym none ∙ refused.whole ) in
+        omega (arith, sized, length-append (payloads_of refused.history) (refused.payload ∷ refused.more))
+
+    on_short : (f : HubFault) → length was ≤ 7 → length now ≤ 7 → payloads ≡ [] → HasReplayReason payloads f → MountsBytes was now (Some f)
+    on_short BadHeader short small none r = absurd r
+    on_short (BadFrame at rule) short small none r = absurd (refused_none at rule none r)
+    on_short DiskFault short small none r = absurd r
+    on_short NoMemory short small none r = inr (short, small)
+
+    on_long : (f : HubFault) → now ≡ was → HasReplayReason payloads f → MountsBytes was now (Some f)
+    on_long BadHeader same r = absurd r
+    on_long (BadFrame at (OfFrame rule)) same r = absurd r.refused
+    on_long (BadFrame at (Event e)) same r = (same, record { payloads = payloads; gate = gate; stands = subst (λ (file : List ℕ). Stands file payloads gate) same stands; refused = r })
+    on_long (BadFrame at Refused) same r = (same, record { payloads = payloads; gate = gate; stands = subst (λ (file : List ℕ). Stands file payloads gate) same stands; refused = r })
+    on_long DiskFault same r = absurd r
+    on_long NoMemory same r = inl same
+
+    by_length : (short : Bool) → nat_le (length was) 7 ≡ short → MountsBytes was now (Some fault)
+    by_length true test =
+        let fresh : now ≡ fresh_file = is ∙ ap (λ (b : Bool). if b then fresh_file else was) test in
+        let none : payloads ≡ [] = (stands_once now payloads [] gate 6 stands (subst (λ (file : List ℕ). Stands file [] 6) (sym fresh) no_frames)).0 in
+        on_short fault (grind (arith, nat_tests, test)) (omega (arith, ap length fresh)) none reason
+    by_length false test =
+        let same : now ≡ was = is ∙ ap (λ (b : Bool). if b then fresh_file else was) test in
+        on_long fault same reason
+
+mount_refused : (was now : Option (List ℕ)) (images : List ℕ → Type 0) (made : Prepared) (fault : HubFault) → Keeps now images false (payloads_in made.frames) [] made.gate → MountsTold was now (Ok made) → HasReplayReason (payloads_in made.frames) fault → MountsHistory was now (Some fault)
+mount_refused None now images made fault keeps mounts reason = mounts
+mount_refused (Some was) None images made fault keeps mounts reason = absurd mounts
+mount_refused (Some was) (Some now) images made fault keeps mounts reason = broken was now (payloads_in made.frames) made.gate fault keeps.as_read mounts reason
+
+pub refused_mount : {T : Type 0} (was now : Option (List ℕ)) (images : List ℕ → Type 0) (made : Prepared) (r : Result T HubFault) → Keeps now images false (payloads_in made.frames) [] made.gate → MountsTold was now (Ok made) → IfErr r (HasReplayReason (payloads_in made.frames)) → IfErr r (λ fault. MountsHistory was now (Some fault))
+refused_mount was now images made (Ok x) keeps mounts reason = tt
+refused_mount was now images made (Err fault) keeps mounts reason = mount_refused was now images made fault keeps mounts reason
