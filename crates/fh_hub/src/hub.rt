@@ -124,6 +124,7 @@ impl<'d, J: Disk> Hub<'d, J> {
             ⊎ KeepsHistory (J.told self.new.journal.disk.now) (J.may_leave self.new.journal.disk.now) self.new.journal.torn self.new.state.history (entry_at self.old.state command.now now) self.new.journal.gate }
         ensures durable { is_recorded (step (world_of self.old.state) command.now now) ≡ true
             → OnOk result (OnlyTold (J.told self.new.journal.disk.now) (J.may_leave self.new.journal.disk.now)) }
+        ensures whole { OnOk result (self.old.journal.torn ≡ false → self.new.journal.torn ≡ false) }
         ensures any_moment { (failed : Entry)
             → KeepsHistory (J.told self.old.journal.disk.now) (J.may_leave self.old.journal.disk.now) self.old.journal.torn self.old.state.history failed self.old.journal.gate
             → IfSome (J.told self.old.journal.disk.now) (λ _. LeavesOnly J.moment J.left_since self.old.journal.disk.now self.new.journal.disk.now
@@ -151,6 +152,7 @@ impl<'d, J: Disk> Hub<'d, J> {
             → KeepsHistory (J.told self.new.journal.disk.now) (J.may_leave self.new.journal.disk.now) self.new.journal.torn self.new.state.history failed self.new.journal.gate
             ⊎ KeepsHistory (J.told self.new.journal.disk.now) (J.may_leave self.new.journal.disk.now) self.new.journal.torn self.new.state.history e self.new.journal.gate }
         ensures durable { OnOk result (OnlyTold (J.told self.new.journal.disk.now) (J.may_leave self.new.journal.disk.now)) }
+        ensures whole { OnOk result (self.new.journal.torn ≡ false) }
         ensures any_moment { (failed : Entry)
             → KeepsHistory (J.told self.old.journal.disk.now) (J.may_leave self.old.journal.disk.now) self.old.journal.torn self.old.state.history failed self.old.journal.gate
             → IfSome (J.told self.old.journal.disk.now) (λ _. LeavesOnly J.moment J.left_since self.old.journal.disk.now self.new.journal.disk.now

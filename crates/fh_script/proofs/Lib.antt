@@ -1,5 +1,9 @@
 pub mod LineReading
 pub mod Steps
+pub mod Turns
+pub mod Turning
+pub mod Starting
+pub mod LastLines
 pub mod Decoding
 pub mod Numbers
 pub mod Printing

@@ -8,6 +8,7 @@ use Rattle.fh_journal.proofs.Bytes.{reads}
 use Rattle.fh_journal.proofs.Moments.{widens, where_told}
 use Rattle.fh_hub.specs.World.{Stepped, Refused, Read, Quieted, Recorded}
 use Rattle.fh_hub.specs.Hub.{KeepsHistory, MayStandFor, StandsForHistory, is_recorded}
+use Rattle.fh_hub.specs.History.{entry_of}
 use Rattle.fh_hub.specs.Replay.{Entry, bytes_of, payloads_of, noted_of}
 use Rattle.fh_hub.proofs.Crashes.{untouched}
 use Rattle.fh_hub.proofs.Replays.{payloads_push}
@@ -95,8 +96,9 @@ module _ {D : Type 0} (told : D → Option (List ℕ)) (may_leave : D → List �
       (λ c. either_of torn history entries failed c whole))
 
   -- a line that makes no call
-  pub leaves_as_was : (disk : D) (only_now : (c : List ℕ) → left_since disk (moment disk) c → may_leave disk c) (history entries : List Entry) (failed : Entry) (gate : ℕ)
+  pub leaves_as_was : (disk : D) (only_now : (c : List ℕ) → left_since disk (moment disk) c → may_leave disk c) (history entries : List Entry) (gate : ℕ)
       → Holds (told disk) (may_leave disk) history gate → IfSome (told disk) (λ _. LeavesOnly moment left_since disk disk (StandsEither history entries))
-  leaves_as_was disk only_now history entries failed gate holds =
-      leaves_either disk disk false history entries failed refl
-      (untouched told may_leave moment left_since disk only_now false history entries failed gate (kept (told disk) (may_leave disk) false history failed gate refl holds))
+  leaves_as_was disk only_now history entries gate holds =
+      let none = entry_of [] in
+      leaves_either disk disk false history entries none refl
+      (untouched told may_leave moment left_since disk only_now false history entries none gate (kept (told disk) (may_leave disk) false history none gate refl holds))

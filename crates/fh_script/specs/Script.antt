@@ -104,20 +104,30 @@ IsLongNext None more = ⊤
 IsLongNext (Some bytes) [] = ⊥
 IsLongNext (Some bytes) (line ∷ more) = 140000 < line_length line
 
--- why a run ends, and what it leaves, with this text behind the answers
+-- why a run ends whose journal was mounted, and what it leaves, with this text behind the answers
+abbrev pub HasLinesReason : Outside → Outside → List ℕ → End → Type 0
+HasLinesReason was now behind Finished = Answered was now [] behind × IsAtEnd now.left
+HasLinesReason was now behind Usage = ⊥
+HasLinesReason was now behind BadHeader = ⊥
+HasLinesReason was now behind (BadFrame at rule) = ⊥
+HasLinesReason was now behind ReadFault = Rose was.read_faults now.read_faults × AnsweredAll was now behind
+HasLinesReason was now behind DiskFault = Rose was.disk_faults now.disk_faults × AnsweredBefore was now behind
+HasLinesReason was now behind WriteFault = Rose was.write_faults now.write_faults × CutOff was now
+HasLinesReason was now behind LongLine = (more : List (List ℕ)) × (IsLongNext was.left more × Answered was now more behind)
+HasLinesReason was now behind NoMemory = ((more : List (List ℕ)) × Answered was now more behind) ⊎ AnsweredBefore was now behind
+
+-- the same of any run
 abbrev pub HasReason : Outside → Outside → List ℕ → End → Type 0
-HasReason was now behind Finished = Answered was now [] behind × IsAtEnd now.left
+HasReason was now behind Finished = HasLinesReason was now behind Finished
 HasReason was now behind Usage = Appends was.written now.written behind × (now.told ≡ was.told)
 HasReason was now behind BadHeader = Unmounted was now mounts.BadHeader behind
 HasReason was now behind (BadFrame at rule) = Unmounted was now (mounts.BadFrame at rule) behind
-HasReason was now behind ReadFault = Rose was.read_faults now.read_faults × AnsweredAll was now behind
+HasReason was now behind ReadFault = HasLinesReason was now behind ReadFault
 HasReason was now behind DiskFault =
-    Rose was.disk_faults now.disk_faults × (Unmounted was now mounts.DiskFault behind ⊎ AnsweredBefore was now behind)
-HasReason was now behind WriteFault = Rose was.write_faults now.write_faults × CutOff was now
-HasReason was now behind LongLine = (more : List (List ℕ)) × (IsLongNext was.left more × Answered was now more behind)
-HasReason was now behind NoMemory =
-    Unmounted was now mounts.NoMemory behind ⊎ ((more : List (List ℕ)) × Answered was now more behind)
-    ⊎ AnsweredBefore was now behind
+    (Rose was.disk_faults now.disk_faults × Unmounted was now mounts.DiskFault behind) ⊎ HasLinesReason was now behind DiskFault
+HasReason was now behind WriteFault = HasLinesReason was now behind WriteFault
+HasReason was now behind LongLine = HasLinesReason was now behind LongLine
+HasReason was now behind NoMemory = Unmounted was now mounts.NoMemory behind ⊎ HasLinesReason was now behind NoMemory
 
 -- the ends of a run whose journal is mounted
 abbrev pub IsOfLines : End → Type 0

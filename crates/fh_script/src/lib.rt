@@ -30,3 +30,5 @@ pub use running::script;
 
 #[cfg(test)]
 mod grammar_tests;
+#[cfg(test)]
+mod tests;

@@ -36,7 +36,10 @@ pub fn read_line<S: Source>(source: &mut S, line: &mut Vec<u8>) -> Result<bool, 
             }
             return Ok(true);
         };
-        line.push(byte)?;
+        match line.push(byte) {
+            Ok(()) => {}
+            Err(_) => return Err(End::NoMemory),
+        }
         if byte == LINE_FEED {
             return Ok(true);
         }

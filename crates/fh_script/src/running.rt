@@ -3,7 +3,7 @@ ghost use Rattle.std.specs.Prelude.{◌≡◌, ◌≤◌, ◌==◌, [], true, fa
 ghost use Rattle.fh_script.specs.Ends.{code_of, last_line};
 ghost use Rattle.fh_hub.specs.State.{world_of};
 ghost use Rattle.fh_hub.specs.Replay.{replay, IsLegal};
-ghost use Rattle.fh_script.specs.Script.{is_script, HasReason, EndsBy, Outside, IsOfLines};
+ghost use Rattle.fh_script.specs.Script.{is_script, HasLinesReason, HasReason, EndsBy, Outside, IsOfLines};
 ghost use Rattle.fh_script.specs.Session.{Holds};
 ghost use Rattle.fh_script.specs.Concluding.{Concludes};
 
@@ -109,7 +109,7 @@ fn answer_lines<S: Source, O: Sink, J: Disk>(
     requires whole { session.old.hub.journal.torn ≡ false }
     requires holds { Holds (J.told session.old.hub.journal.disk.now) (J.may_leave session.old.hub.journal.disk.now)
         session.old.hub.state.history session.old.hub.journal.gate }
-    ensures reason { HasReason
+    ensures reason { HasLinesReason
         (record { left = S.left source.old; read_faults = S.read_faults source.old; written = O.written sink.old; write_faults = O.write_faults sink.old; told = J.told session.old.hub.journal.disk.now; disk_faults = J.disk_faults session.old.hub.journal.disk.now })
         (record { left = S.left source.new; read_faults = S.read_faults source.new; written = O.written sink.new; write_faults = O.write_faults sink.new; told = J.told session.new.hub.journal.disk.now; disk_faults = J.disk_faults session.new.hub.journal.disk.now })
         [] result }
