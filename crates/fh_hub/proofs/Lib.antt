@@ -5,3 +5,11 @@ pub mod Narrow
 pub mod Recording
 pub mod Replays
 pub mod Spelling
+pub mod Steps
+pub mod Tallies
+pub mod Births
+pub mod Holds
+pub mod Told
+pub mod Places
+pub mod Guarding
+pub mod Rising

@@ -92,7 +92,7 @@ broken was now payloads gate fault stands is reason = by_length (nat_le (length 
 
     refused_none : (at : ℕ) (rule : _) → payloads ≡ [] → IsRefusedAt payloads at rule → ⊥
     refused_none at rule none refused =
-        let sized = ap length (sym none ∙ refused.whole ) in
+        let sized = ap length (sym none ∙ refused.whole) in
         omega (arith, sized, length-append (payloads_of refused.history) (refused.payload ∷ refused.more))
 
     on_short : (f : HubFault) → length was ≤ 7 → length now ≤ 7 → payloads ≡ [] → HasReplayReason payloads f → MountsBytes was now (Some f)

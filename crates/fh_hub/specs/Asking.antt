@@ -2,7 +2,6 @@
 use Rattle.fh_queues.specs.Asks.{ask_of}
 use Rattle.fh_hub.specs.World.{Asked, Refuses, Reads, Asks}
 use Rattle.fh_hub.specs.declared.asking.Asked.TheVariants as code
-
 use Rattle.fh_hub.specs.declared.asking.Asked as declared
 
 abbrev pub asked_of : declared.Asked → Asked

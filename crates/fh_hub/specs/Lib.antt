@@ -6,3 +6,6 @@ pub mod State
 pub mod Plans
 pub mod Hub
 pub mod Mounting
+pub mod Laws
+pub mod Places
+pub mod Guards

@@ -23,7 +23,12 @@ pub(crate) enum Asked<'a> {
 impl<'a> Asked<'a> {
     /// What a command asks at a moment.
     #[tactic(auto, unfolding(crate::specs::World::asked))]
-    pub(crate) fn of(alloc: Global, queues: &Queues, command: &'a Command, m: Moment) -> Result<Asked<'a>, NoMemory>
+    pub(crate) fn of(
+        alloc: Global,
+        queues: &Queues,
+        command: &'a Command,
+        m: Moment,
+    ) -> Result<Asked<'a>, NoMemory>
         ensures { IfOk result (λ a. asked_of a ≡ asked queues.now.part command.entry.now m) }
     {
         match command {
@@ -89,7 +94,13 @@ impl<'a> Asked<'a> {
         }
     }
 
-    fn update(queue: &Text, number: u64, receipt: u64, hold: u64, text: Option<&'a Text>) -> Asked<'a>
+    fn update(
+        queue: &Text,
+        number: u64,
+        receipt: u64,
+        hold: u64,
+        text: Option<&'a Text>,
+    ) -> Asked<'a>
         ensures { asked_of result ≡ where_named queue.now (Asks (asks.Update queue.now number receipt hold (option_map (λ t. t.now) text.entry))) }
     {
         match QueueName::read(queue.as_str()) {
@@ -126,7 +137,13 @@ impl<'a> Asked<'a> {
         }
     }
 
-    fn peek(alloc: Global, queues: &Queues, queue: &Text, count: u64, m: Moment) -> Result<Asked<'a>, NoMemory>
+    fn peek(
+        alloc: Global,
+        queues: &Queues,
+        queue: &Text,
+        count: u64,
+        m: Moment,
+    ) -> Result<Asked<'a>, NoMemory>
         ensures { IfOk result (λ a. asked_of a ≡ where_named queue.now (peeking (peeked queues.now.part queue.now count m))) }
     {
         let Some(queue) = QueueName::read(queue.as_str()) else {

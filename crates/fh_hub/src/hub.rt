@@ -128,7 +128,7 @@ impl<'d, J: Disk> Hub<'d, J> {
         ensures any_moment { (failed : Entry)
             → KeepsHistory (J.told self.old.journal.disk.now) (J.may_leave self.old.journal.disk.now) self.old.journal.torn self.old.state.history failed self.old.journal.gate
             → IfSome (J.told self.old.journal.disk.now) (λ _. LeavesOnly J.moment J.left_since self.old.journal.disk.now self.new.journal.disk.now
-                (MayStandFor self.old.journal.torn self.old.state.history failed (noted (world_of self.old.state) command.now now))) }
+            (MayStandFor self.old.journal.torn self.old.state.history failed (noted (world_of self.old.state) command.now now))) }
         ensures count { J.disk_faults self.old.journal.disk.now ≤ J.disk_faults self.new.journal.disk.now }
         ensures same { self.new.journal.disk.ghost_name ≡ self.old.journal.disk.ghost_name }
     {
@@ -156,7 +156,7 @@ impl<'d, J: Disk> Hub<'d, J> {
         ensures any_moment { (failed : Entry)
             → KeepsHistory (J.told self.old.journal.disk.now) (J.may_leave self.old.journal.disk.now) self.old.journal.torn self.old.state.history failed self.old.journal.gate
             → IfSome (J.told self.old.journal.disk.now) (λ _. LeavesOnly J.moment J.left_since self.old.journal.disk.now self.new.journal.disk.now
-                (MayStandFor self.old.journal.torn self.old.state.history failed (e ∷ []))) }
+            (MayStandFor self.old.journal.torn self.old.state.history failed (e ∷ []))) }
         ensures count { J.disk_faults self.old.journal.disk.now ≤ J.disk_faults self.new.journal.disk.now }
         ensures same { self.new.journal.disk.ghost_name ≡ self.old.journal.disk.ghost_name }
     {

@@ -109,7 +109,12 @@ impl State {
     }
 
     // The change of an entry that is recorded at its own moment.
-    fn plan_entry(&self, alloc: Global, command: &Command, moment: Moment) -> Result<Change, EntryFault>
+    fn plan_entry(
+        &self,
+        alloc: Global,
+        command: &Command,
+        moment: Moment,
+    ) -> Result<Change, EntryFault>
         requires { IsIdle self.now }
         ensures change { IfOk result (λ change. IsPlanned self.now (planned_queues self.now.queues.part change.queues) change.payload (record { command = command.now; moment = moment })
             × (change.moment ≡ moment) × (entry_of change.payload ≡ record { command = command.now; moment = moment })) }

@@ -119,7 +119,13 @@ impl State {
         }
     }
 
-    fn plan_ask(&self, alloc: Global, command: &Command, ask: &QueueAsk<'_>, m: Moment) -> Result<Plan, PlanFault>
+    fn plan_ask(
+        &self,
+        alloc: Global,
+        command: &Command,
+        ask: &QueueAsk<'_>,
+        m: Moment,
+    ) -> Result<Plan, PlanFault>
         requires idle { IsIdle self.now }
         requires own_moment { self.now.last ≤ m }
         requires asks { asked self.now.queues.part command.now m ≡ Asks (ask_of ask.now) }

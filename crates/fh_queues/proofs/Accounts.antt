@@ -9,12 +9,23 @@ use Rattle.fh_queues.specs.Rows.{is_of, is_live, is_dead, dead}
 use Rattle.fh_queues.specs.Part.{QueuePart, no_queues, swept, with_queue, after, row_of_put, with_row, taken_items, with_items, renewed, with_renewal, with_end, rows_of, cleared}
 use Rattle.fh_queues.specs.Outcome.{Outcome, outcome}
 use Rattle.fh_queues.specs.Sound.{IsSound}
-use Rattle.fh_queues.specs.Order.{IsInOrder}
-use Rattle.fh_queues.specs.Accounts.{born, given, standing, gone, Accounts}
+use Rattle.fh_queues.specs.Accounts.{born, given, standing, gone}
 use Rattle.fh_queues.proofs.Standing.{standing-push, gone-push, gone-append, standing-filter_both, gone-ended, standing-with_change, standing-with_items, standing-without, standing-row_in, listed-before, listed-past, listed_once}
 use Rattle.fh_queues.proofs.Sounds.{Sound-outcome}
-use Rattle.fh_queues.proofs.Orders.{Order-outcome}
+use Rattle.fh_queues.proofs.Orders.{IsInOrder, Order-outcome}
 use Rattle.fh_queues.proofs.Ways.{Ways, chosen, by_ways}
+
+-- so many messages were born with each number and each receipt was given so often, where this is the part
+pub record Accounts (births receipts : ℕ → ℕ) (part : QueuePart) : Type 0 where
+  pub once : (n : ℕ) → births n ≤ 1
+  pub zero : births 0 ≡ 0
+  pub each : (n : ℕ) → 1 ≤ n → n < part.next_number → births n ≡ 1
+  pub fresh : (n : ℕ) → part.next_number ≤ n → births n ≡ 0
+  pub places : (n : ℕ) → births n ≡ standing n part.rows + gone n part.ends
+  pub receipt_once : (k : ℕ) → receipts k ≤ 1
+  pub receipt_fresh : (k : ℕ) → part.next_receipt ≤ k → receipts k ≡ 0
+  pub sound : IsSound part
+  pub order : IsInOrder part
 
 -- the accounts without soundness and order, which are shown on their own
 pub record Counts (births receipts : ℕ → ℕ) (part : QueuePart) : Type 0 where

@@ -10,7 +10,8 @@ use Rattle.fh_queues.specs.Asks.{Ask}
 use Rattle.fh_queues.specs.Rows.{is_of, is_live, is_visible, live, visible, with_change, row_of}
 use Rattle.fh_queues.specs.Part.{QueuePart, after, row_of_put, taken_items, with_item, held, renewed}
 use Rattle.fh_queues.specs.Outcome.{Outcome, outcome}
-use Rattle.fh_queues.specs.Accounts.{standing, Accounts}
+use Rattle.fh_queues.specs.Accounts.{standing}
+use Rattle.fh_queues.proofs.Accounts.{Accounts}
 use Rattle.fh_queues.specs.Receipts.{item_of}
 use Rattle.fh_queues.specs.Acts.{held_by, acted}
 use Rattle.fh_queues.proofs.Standing.{standing-cons, standing-filter-le}

@@ -13,10 +13,10 @@ use Rattle.fh_queues.specs.Rows.{is_dead, live, dead, row_in}
 use Rattle.fh_queues.specs.Part.{QueuePart, ended, expired, deleted, rows_of}
 use Rattle.fh_queues.specs.Outcome.{Outcome, outcome, is_quiet}
 use Rattle.fh_queues.specs.Places.{end_of}
-use Rattle.fh_queues.specs.Accounts.{standing, gone, Accounts}
+use Rattle.fh_queues.specs.Accounts.{standing, gone}
 use Rattle.fh_queues.specs.Ends.{is_deletion, is_expiry, passes, was_deleted, was_expired, deletes, lapses}
 use Rattle.fh_queues.proofs.Standing.{gone-cons, gone-append, gone-ended, standing-cons}
-use Rattle.fh_queues.proofs.Accounts.{Accounts-outcome}
+use Rattle.fh_queues.proofs.Accounts.{Accounts, Accounts-outcome}
 use Rattle.fh_queues.proofs.Ways.{Ways, by_ways}
 
 -- how many ends of a number pass a test of their ending

@@ -12,10 +12,10 @@ use Rattle.fh_queues.specs.Rows.{is_live, row_of}
 use Rattle.fh_queues.specs.Part.{QueuePart, no_queues}
 use Rattle.fh_queues.specs.Outcome.{Outcome, outcome}
 use Rattle.fh_queues.specs.Places.{place_of_row, place_of_ending, place_by, place_of, end_of}
-use Rattle.fh_queues.specs.Accounts.{born, given, standing, gone, Accounts}
+use Rattle.fh_queues.specs.Accounts.{born, given, standing, gone}
 use Rattle.fh_queues.specs.Histories.{Asked, part_or, answer_of, part_from, answers_from, part_after, answers, births, receipts}
 use Rattle.fh_queues.specs.Laws.{IsInOnePlace, IsGivenInTurn, IsKnownByBirth, OfEachAsk, KeepsUntouched, RaisesReceipts, KeepsEnds, DeletesAsAsked, ExpiresAtEnd, ActsAsAnswered, TakesVisible}
-use Rattle.fh_queues.proofs.Accounts.{Accounts-outcome, Accounts-none, Accounts-same}
+use Rattle.fh_queues.proofs.Accounts.{Accounts, Accounts-outcome, Accounts-none, Accounts-same}
 use Rattle.fh_queues.proofs.Finding.{standing-row_of, standing-none}
 use Rattle.fh_queues.proofs.Ends.{gone-end_of, gone-none, end_of-outcome, was_deleted-outcome, was_expired-outcome, deletes_new, lapses_new}
 use Rattle.fh_queues.proofs.Acts.{Acts-outcome}

@@ -1,5 +1,5 @@
 -- How far one ask moves the counters.
-use Rattle.std.proofs.Common.{◌≡◌, ℕ, suc, ◌+◌, ◌≤◌, Bool, true, false, List, [], ◌∷◌, length, take, Option, Some, None, refl, ap, ◌∙◌, Ok, arith, length-take}
+use Rattle.std.proofs.Common.{◌≡◌, ℕ, suc, ◌+◌, ◌≤◌, Bool, true, false, List, [], ◌∷◌, length, Some, None, refl, ap, Ok, arith, length-take}
 use Rattle.std.specs.Prelude.{◌&&◌, nat_le, if◌then◌else◌}
 use Rattle.std.proofs.lemmas.Bool.Decides.{nat_tests}
 use Rattle.fh_base.specs.declared.rule.Rule.TheVariants.{OutOfRange}
@@ -7,7 +7,7 @@ use Rattle.fh_queues.specs.declared.row.Message.{Message}
 use Rattle.fh_queues.specs.Asks.{Ask, Make, Put, Take, Update, Delete, Clear, Sweep}
 use Rattle.fh_queues.specs.Rows.{visible}
 use Rattle.fh_queues.specs.Part.{QueuePart, swept, taken_items}
-use Rattle.fh_queues.specs.Rules.{first_broken, range_rule, take_rule, queue_rule}
+use Rattle.fh_queues.specs.Rules.{range_rule, take_rule, queue_rule}
 use Rattle.fh_queues.specs.Outcome.{Outcome, outcome}
 use Rattle.fh_queues.proofs.Ways.{by_ways, chosen, unbroken, unbroken-head}
 
@@ -32,20 +32,20 @@ record MovesBy (part : QueuePart) (ask : Ask) (made : Outcome) : Type 0 where
 
 by_each : (part : QueuePart) (m : ℕ) (ask : Ask) (made : Outcome) → outcome part ask m ≡ Ok made → MovesBy part ask made
 by_each part m = let same : (swept m part).next_receipt ≡ part.next_receipt = refl in let alike : (swept m part).next_number ≡ part.next_number = refl in by_ways (MovesBy part) part m (record {
-    there = λ queue. record { number = omega (arith, alike); receipt = omega (arith, same) };
-    makes = λ queue. record { number = omega (arith, alike); receipt = omega (arith, same) };
-    puts = λ queue delay ttl text about. record { number = omega (arith, alike); receipt = omega (arith, same) };
-    finds_none = λ queue count hold. record { number = omega (arith, alike); receipt = omega (arith, same) };
-    takes = λ queue count hold. record {
-      number = omega (arith, alike);
-      receipt = omega (arith, same, length-taken_items part.next_receipt (chosen part m queue count), length-take count (visible queue m part.rows));
-    };
-    updates = λ queue number receipt hold text is. record { number = omega (arith, alike); receipt = omega (arith, same) };
-    deletes = λ queue number receipt is. record { number = omega (arith, alike); receipt = omega (arith, same) };
-    clears_none = λ queue none. record { number = omega (arith, alike); receipt = omega (arith, same) };
-    clears = λ queue. record { number = omega (arith, alike); receipt = omega (arith, same) };
-    sweeps = record { number = omega (arith, alike); receipt = omega (arith, same) };
-  })
+  there = λ queue. record { number = omega (arith, alike); receipt = omega (arith, same) };
+  makes = λ queue. record { number = omega (arith, alike); receipt = omega (arith, same) };
+  puts = λ queue delay ttl text about. record { number = omega (arith, alike); receipt = omega (arith, same) };
+  finds_none = λ queue count hold. record { number = omega (arith, alike); receipt = omega (arith, same) };
+  takes = λ queue count hold. record {
+    number = omega (arith, alike);
+    receipt = omega (arith, same, length-taken_items part.next_receipt (chosen part m queue count), length-take count (visible queue m part.rows));
+  };
+  updates = λ queue number receipt hold text is. record { number = omega (arith, alike); receipt = omega (arith, same) };
+  deletes = λ queue number receipt is. record { number = omega (arith, alike); receipt = omega (arith, same) };
+  clears_none = λ queue none. record { number = omega (arith, alike); receipt = omega (arith, same) };
+  clears = λ queue. record { number = omega (arith, alike); receipt = omega (arith, same) };
+  sweeps = record { number = omega (arith, alike); receipt = omega (arith, same) };
+})
 
 in_range : (given low high : ℕ) → range_rule given low high ≡ None → given ≤ high
 in_range given low high is = by_test (nat_le low given && nat_le given high) refl is

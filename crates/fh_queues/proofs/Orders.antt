@@ -9,9 +9,15 @@ use Rattle.fh_queues.specs.Asks.{Ask}
 use Rattle.fh_queues.specs.Rows.{is_of, is_live, live, with_change, without}
 use Rattle.fh_queues.specs.Part.{QueuePart, after, row_of_put, taken_items, with_item, held, renewed}
 use Rattle.fh_queues.specs.Outcome.{Outcome, outcome}
-use Rattle.fh_queues.specs.Order.{are_rising, IsInOrder}
+use Rattle.fh_queues.specs.Order.{are_rising}
 use Rattle.fh_queues.proofs.Kept.{list_all-filter, list_all-push, list_all-weaker, list_all-with_change, list_all-without}
 use Rattle.fh_queues.proofs.Ways.{Ways, chosen, by_ways}
+
+-- numbers begin at 1, rise, and the next one is above them all
+pub record IsInOrder (part : QueuePart) : Type 0 where
+  pub begun : 1 ≤ part.next_number
+  pub rising : are_rising 0 part.rows ≡ true
+  pub below : list_all (λ row. nat_lt row.number part.next_number) part.rows ≡ true
 
 -- rows that rise from a number do so from a lower one
 are_rising-lower : (low lower : ℕ) (rows : List Message) → lower ≤ low → are_rising low rows ≡ true → are_rising lower rows ≡ true

@@ -9,7 +9,8 @@ use Rattle.fh_queues.specs.Rows.{is_of, is_live, is_visible, live, row_of, row_i
 use Rattle.fh_queues.specs.Part.{QueuePart, after, row_of_put, taken_items, renewed}
 use Rattle.fh_queues.specs.Outcome.{Outcome, outcome}
 use Rattle.fh_queues.specs.Sound.{is_counted}
-use Rattle.fh_queues.specs.Accounts.{standing, Accounts}
+use Rattle.fh_queues.specs.Accounts.{standing}
+use Rattle.fh_queues.proofs.Accounts.{Accounts}
 use Rattle.fh_queues.specs.Receipts.{item_of, is_named, touches, Rises}
 use Rattle.fh_queues.proofs.Standing.{standing-filter-le}
 use Rattle.fh_queues.proofs.Finding.{all_row_of, is_some-item_of, row_of-filter, row_of-push, row_of-with_change_other, row_of-without_other, row_of-with_items_other, any-taken_items, any-take, passes_by_number, row_in_is, is_of-row_in, row_of-filter_was, row_of-without_was, row_of-push_was, row_of-with_change_was, row_of-with_items_was, are_later-taken_items}

@@ -9,7 +9,8 @@ use Rattle.fh_queues.specs.Asks.{Ask}
 use Rattle.fh_queues.specs.Rows.{is_visible, visible, row_of}
 use Rattle.fh_queues.specs.Part.{QueuePart, taken_items}
 use Rattle.fh_queues.specs.Outcome.{Outcome, outcome}
-use Rattle.fh_queues.specs.Accounts.{standing, Accounts}
+use Rattle.fh_queues.specs.Accounts.{standing}
+use Rattle.fh_queues.proofs.Accounts.{Accounts}
 use Rattle.fh_queues.specs.Receipts.{item_of, listed_item}
 use Rattle.fh_queues.specs.Acts.{IsTakenFrom}
 use Rattle.fh_queues.proofs.Finding.{all_row_of, row_of-filter_was}

@@ -1,5 +1,5 @@
 -- What is asked of the queues, with the texts themselves.
-use Rattle.std.specs.Prelude.{ℕ, List, Option, option_map, option_copied}
+use Rattle.std.specs.Prelude.{ℕ, List, Option, option_map}
 use Rattle.fh_queues.specs.declared.row.About.{About}
 use Rattle.fh_queues.specs.declared.ask.QueueAsk.{QueueAsk}
 use Rattle.fh_queues.specs.declared.ask.QueueAsk.TheVariants as asks

@@ -1,6 +1,5 @@
 -- Changes of the queues, planned and staged.
-use Rattle.std.specs.Prelude.{◌≡◌, ℕ, ◌+◌, ◌<◌, ◌≤◌, ◌^◌, Bool, true, false, List, length, Option, Some, None, Result, Ok, Err}
-use Rattle.fh_base.specs.declared.rule.Rule.{Rule}
+use Rattle.std.specs.Prelude.{◌≡◌, ℕ, ◌+◌, ◌<◌, ◌≤◌, ◌^◌, length, Option, Some, None, Ok}
 use Rattle.fh_queues.specs.declared.row.Message.{Message}
 use Rattle.fh_queues.specs.declared.done.QueueDone.TheVariants as done
 use Rattle.fh_queues.specs.declared.done.Ending.TheVariants as endings
@@ -10,7 +9,7 @@ use Rattle.fh_queues.specs.Asks.{Ask}
 use Rattle.fh_queues.specs.Part.{QueuePart, swept, with_queue, with_row, with_items, with_renewal, with_end, cleared}
 use Rattle.fh_queues.specs.Outcome.{Outcome, outcome}
 
--- what the queues hold: their part of the world, the row of a put that is staged, and the room that was reserved
+-- what the queues hold: their part of the world, the row of a put that is staged, and the room that is left
 pub record QueueState : Type 0 where
   pub part : QueuePart
   pub ahead : Option Message
@@ -27,6 +26,7 @@ pub record Staged : Type 0 where
   pub moment : ℕ
   pub edit : Edit
 
+-- a put always has its row
 abbrev pub with_put : QueuePart → ℕ → Option Message → Outcome
 with_put part m None = (swept m part, done.Swept)
 with_put part m (Some row) = (with_row row (swept m part), done.Stored row.number row.receipt)
@@ -38,7 +38,8 @@ edited part row m LeaveThere = (part, done.There)
 edited part row m Put = with_put part m row
 edited part row m (Hold until items) = (with_items until items (swept m part), done.Taken items)
 edited part row m LeaveEmpty = (part, done.Empty)
-edited part row m (Renew number until text) = (with_renewal number until text (swept m part), done.Updated part.next_receipt)
+edited part row m (Renew number until text) =
+    (with_renewal number until text (swept m part), done.Updated part.next_receipt)
 edited part row m (Delete number) = (with_end number endings.Deleted (swept m part), done.Deleted)
 edited part row m (Clear queue count) = (cleared queue (swept m part), done.Cleared count)
 edited part row m Sweep = (swept m part, done.Swept)

@@ -27,7 +27,8 @@ part_from part (asked ∷ history) = part_from (part_or part (outcome part asked
 abbrev pub answers_from : QueuePart → List Asked → List QueueDone
 answers_from part [] = []
 answers_from part (asked ∷ history) =
-    let made = outcome part asked.ask asked.moment in answer_of made ++ answers_from (part_or part made) history
+    let made = outcome part asked.ask asked.moment in
+    answer_of made ++ answers_from (part_or part made) history
 
 -- the queues after these asks, from no queues on
 abbrev pub part_after : List Asked → QueuePart

@@ -18,16 +18,20 @@ use Rattle.fh_queues.specs.Histories.{Asked, part_after, answers, births}
 
 -- numbers are given from 1 on, each once and none left out
 abbrev pub IsGivenInTurn : List Asked → ℕ → Type 0
-IsGivenInTurn history n = (births n (answers history) ≡ 1) ↔ ((1 ≤ n) × (n < (part_after history).next_number))
+IsGivenInTurn history n =
+    (births n (answers history) ≡ 1) ↔ ((1 ≤ n) × (n < (part_after history).next_number))
 
 -- a message that was put is one row or has one end, and no other number has either
 pub record IsInOnePlace (history : List Asked) (n : ℕ) : Type 0 where
   pub born_once : births n (answers history) ≤ 1
-  pub one_place : births n (answers history) ≡ standing n (part_after history).rows + gone n (part_after history).ends
+  pub one_place :
+      births n (answers history)
+      ≡ standing n (part_after history).rows + gone n (part_after history).ends
 
 -- a message was put where it is somewhere, at each moment
 abbrev pub IsKnownByBirth : List Asked → ℕ → ℕ → Type 0
-IsKnownByBirth history n m = (births n (answers history) ≡ 0) ↔ (place_of (part_after history) n m ≡ place.Unknown)
+IsKnownByBirth history n m =
+    (births n (answers history) ≡ 0) ↔ (place_of (part_after history) n m ≡ place.Unknown)
 
 -- rows stand in order of number, so that the first visible ones are the oldest
 abbrev pub IsOldestFirst : List Asked → Type 0
@@ -36,8 +40,8 @@ IsOldestFirst history = are_rising 0 (part_after history).rows ≡ true
 -- what holds of each ask that isn't refused, after any history
 abbrev pub OfEachAsk : (QueuePart → Ask → ℕ → Outcome → Type 0) → Type 0
 OfEachAsk Holds =
-    (history : List Asked) (ask : Ask) (m : ℕ) (made : Outcome) → outcome (part_after history) ask m ≡ Ok made
-    → Holds (part_after history) ask m made
+    (history : List Asked) (ask : Ask) (m : ℕ) (made : Outcome)
+    → outcome (part_after history) ask m ≡ Ok made → Holds (part_after history) ask m made
 
 -- a live row that the ask doesn't touch stands unchanged
 abbrev pub KeepsUntouched : QueuePart → Ask → ℕ → Outcome → Type 0
@@ -75,4 +79,5 @@ ActsAsAnswered part ask m made =
 
 -- what is listed as taken was visible
 abbrev pub TakesVisible : QueuePart → Ask → ℕ → Outcome → Type 0
-TakesVisible part ask m made = (n : ℕ) (item : Item) → listed_item made.1 n ≡ Some item → IsTakenFrom part m ask item
+TakesVisible part ask m made =
+    (n : ℕ) (item : Item) → listed_item made.1 n ≡ Some item → IsTakenFrom part m ask item

@@ -5,12 +5,12 @@ use Rattle.fh_queues.specs.Part.{QueuePart}
 
 abbrev pub part_of : Lists → QueuePart
 part_of lists = record {
-    queues = lists.queues.items;
-    rows = lists.rows.items;
-    ends = lists.ends.items;
-    next_number = lists.next_number;
-    next_receipt = lists.next_receipt;
-  }
+  queues = lists.queues.items;
+  rows = lists.rows.items;
+  ends = lists.ends.items;
+  next_number = lists.next_number;
+  next_receipt = lists.next_receipt;
+}
 
 -- how many more ends have room
 abbrev pub end_room : Lists → ℕ

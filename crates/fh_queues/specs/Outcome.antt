@@ -21,13 +21,15 @@ unless_refused None x = Ok x
 unless_refused (Some rule) x = Err rule
 
 abbrev pub making : QueuePart → ℕ → List ℕ → Outcome
-making part m queue = if has_queue part.queues queue then (part, done.There) else (with_queue queue (swept m part), done.Made)
+making part m queue =
+    if has_queue part.queues queue then (part, done.There) else (with_queue queue (swept m part), done.Made)
 
 -- these messages are held until then; where there is none, nothing changes
 abbrev pub holding : QueuePart → ℕ → ℕ → List Message → Outcome
 holding part m until [] = (part, done.Empty)
 holding part m until (row ∷ rows) =
-    let items = taken_items part.next_receipt (row ∷ rows) in (with_items until items (swept m part), done.Taken items)
+    let items = taken_items part.next_receipt (row ∷ rows) in
+    (with_items until items (swept m part), done.Taken items)
 
 -- all live messages of the queue are deleted; where there is none, nothing changes
 abbrev pub clearing : QueuePart → ℕ → List ℕ → List Message → Outcome
@@ -36,13 +38,16 @@ clearing part m queue (row ∷ rows) = (cleared queue (swept m part), done.Clear
 
 abbrev pub putting : QueuePart → ℕ → List ℕ → ℕ → Option ℕ → List ℕ → Option About → Result Outcome Rule
 putting part m queue delay ttl text about =
-    unless_refused (put_rule part m queue delay ttl text)
-    (with_row (row_of_put part m queue delay ttl text about) (swept m part), done.Stored part.next_number part.next_receipt)
+    unless_refused (put_rule part m queue delay ttl text) (
+      with_row (row_of_put part m queue delay ttl text about) (swept m part),
+      done.Stored part.next_number part.next_receipt,
+    )
 
 -- the first visible messages are held
 abbrev pub taking : QueuePart → ℕ → List ℕ → ℕ → ℕ → Result Outcome Rule
 taking part m queue count hold =
-    unless_refused (take_rule part queue count hold) (holding part m (after m hold) (take count (visible queue m part.rows)))
+    unless_refused (take_rule part queue count hold)
+    (holding part m (after m hold) (take count (visible queue m part.rows)))
 
 abbrev pub updating : QueuePart → ℕ → List ℕ → ℕ → ℕ → ℕ → Option (List ℕ) → Result Outcome Rule
 updating part m queue number receipt hold text =
@@ -51,10 +56,12 @@ updating part m queue number receipt hold text =
 
 abbrev pub deleting : QueuePart → ℕ → List ℕ → ℕ → ℕ → Result Outcome Rule
 deleting part m queue number receipt =
-    unless_refused (message_rule part m queue number receipt) (with_end number endings.Deleted (swept m part), done.Deleted)
+    unless_refused (message_rule part m queue number receipt)
+    (with_end number endings.Deleted (swept m part), done.Deleted)
 
 abbrev pub emptying : QueuePart → ℕ → List ℕ → Result Outcome Rule
-emptying part m queue = unless_refused (queue_rule part queue) (clearing part m queue (rows_of queue (live m part.rows)))
+emptying part m queue =
+    unless_refused (queue_rule part queue) (clearing part m queue (rows_of queue (live m part.rows)))
 
 unfoldable pub outcome : QueuePart → Ask → ℕ → Result Outcome Rule
 outcome part (Make queue) m = Ok (making part m queue)

@@ -51,43 +51,45 @@ expiry_after m (Some ttl) = Some (after m ttl)
 -- the row that a put makes
 abbrev pub row_of_put : QueuePart → ℕ → List ℕ → ℕ → Option ℕ → List ℕ → Option About → Message
 row_of_put part m queue delay ttl text about = record {
-    number = part.next_number;
-    queue = queue;
-    text = text;
-    put_at = m;
-    visible_at = after m delay;
-    expiry = expiry_after m ttl;
-    count = 0;
-    receipt = part.next_receipt;
-    held = false;
-    about = about;
-  }
+  number = part.next_number;
+  queue = queue;
+  text = text;
+  put_at = m;
+  visible_at = after m delay;
+  expiry = expiry_after m ttl;
+  count = 0;
+  receipt = part.next_receipt;
+  held = false;
+  about = about;
+}
 
 abbrev pub with_row : Message → QueuePart → QueuePart
 with_row row part = record part {
-    rows = part.rows ++ row ∷ [];
-    next_number = part.next_number + 1;
-    next_receipt = part.next_receipt + 1;
-  }
+  rows = part.rows ++ row ∷ [];
+  next_number = part.next_number + 1;
+  next_receipt = part.next_receipt + 1;
+}
 
 -- the messages of a list, each taken once more, with the next receipts
 abbrev pub taken_items : ℕ → List Message → List Item
 taken_items receipt [] = []
 taken_items receipt (row ∷ rows) =
-    record { number = row.number; receipt = receipt; count = row.count + 1; text = row.text } ∷ taken_items (receipt + 1) rows
+    record { number = row.number; receipt = receipt; count = row.count + 1; text = row.text }
+    ∷ taken_items (receipt + 1) rows
 
 -- a row that is held until then, with the receipt and the count of what was taken
 abbrev pub held : ℕ → Item → Message → Message
-held until item row = record row { visible_at = until; count = item.count; receipt = item.receipt; held = true }
+held until item row =
+    record row { visible_at = until; count = item.count; receipt = item.receipt; held = true }
 
 abbrev pub with_item : ℕ → List Message → Item → List Message
 with_item until rows item = with_change item.number (held until item) rows
 
 abbrev pub with_items : ℕ → List Item → QueuePart → QueuePart
 with_items until items part = record part {
-    rows = fold (with_item until) part.rows items;
-    next_receipt = part.next_receipt + length items;
-  }
+  rows = fold (with_item until) part.rows items;
+  next_receipt = part.next_receipt + length items;
+}
 
 abbrev pub text_or : Option (List ℕ) → List ℕ → List ℕ
 text_or None text = text
@@ -100,15 +102,15 @@ renewed until receipt text row =
 
 abbrev pub with_renewal : ℕ → ℕ → Option (List ℕ) → QueuePart → QueuePart
 with_renewal number until text part = record part {
-    rows = with_change number (renewed until part.next_receipt text) part.rows;
-    next_receipt = part.next_receipt + 1;
-  }
+  rows = with_change number (renewed until part.next_receipt text) part.rows;
+  next_receipt = part.next_receipt + 1;
+}
 
 abbrev pub with_end : ℕ → Ending → QueuePart → QueuePart
 with_end number ending part = record part {
-    rows = without number part.rows;
-    ends = part.ends ++ record { number = number; ending = ending } ∷ [];
-  }
+  rows = without number part.rows;
+  ends = part.ends ++ record { number = number; ending = ending } ∷ [];
+}
 
 abbrev pub rows_of : List ℕ → List Message → List Message
 rows_of queue rows = filter (is_of queue) rows
@@ -116,6 +118,6 @@ rows_of queue rows = filter (is_of queue) rows
 -- all rows of the queue are deleted
 abbrev pub cleared : List ℕ → QueuePart → QueuePart
 cleared queue part = record part {
-    rows = filter (λ row. not (is_of queue row)) part.rows;
-    ends = part.ends ++ map deleted (rows_of queue part.rows);
-  }
+  rows = filter (λ row. not (is_of queue row)) part.rows;
+  ends = part.ends ++ map deleted (rows_of queue part.rows);
+}

@@ -11,7 +11,8 @@ use Rattle.fh_queues.specs.Part.{QueuePart}
 
 -- held before its visible time, where the last change of its visibility was a hold
 abbrev pub place_of_live : ℕ → Message → Place
-place_of_live m row = if row.held && nat_lt m row.visible_at then place.Held row.queue row.visible_at else place.Waiting row.queue
+place_of_live m row =
+    if row.held && nat_lt m row.visible_at then place.Held row.queue row.visible_at else place.Waiting row.queue
 
 abbrev pub place_of_row : ℕ → Message → Place
 place_of_row m row = if is_live m row then place_of_live m row else place.Expired

@@ -47,7 +47,8 @@ row_in queue number m rows = find (λ row. (row.number == number) && is_of queue
 -- the row of this number is changed
 abbrev pub with_change : ℕ → (Message → Message) → List Message → List Message
 with_change number change [] = []
-with_change number change (row ∷ rows) = if row.number == number then change row ∷ rows else row ∷ with_change number change rows
+with_change number change (row ∷ rows) =
+    if row.number == number then change row ∷ rows else row ∷ with_change number change rows
 
 -- the row of this number is gone
 abbrev pub without : ℕ → List Message → List Message

@@ -13,7 +13,8 @@ first_broken (Some rule ∷ rules) = Some rule
 first_broken (None ∷ rules) = first_broken rules
 
 abbrev pub range_rule : ℕ → ℕ → ℕ → Option Rule
-range_rule given low high = if nat_le low given && nat_le given high then None else Some (OutOfRange given low high)
+range_rule given low high =
+    if nat_le low given && nat_le given high then None else Some (OutOfRange given low high)
 
 -- a text has at most 65,536 bytes
 abbrev pub text_rule : List ℕ → Option Rule
@@ -40,18 +41,22 @@ queue_rule part queue = if has_queue part.queues queue then None else Some Queue
 
 abbrev pub receipt_rule : Option Message → ℕ → Option Rule
 receipt_rule None receipt = Some MessageNotFound
-receipt_rule (Some row) receipt = if row.receipt == receipt then None else Some (PopReceiptMismatch row.receipt)
+receipt_rule (Some row) receipt =
+    if row.receipt == receipt then None else Some (PopReceiptMismatch row.receipt)
 
 -- at most 100,000 messages are live
 abbrev pub store_rule : QueuePart → ℕ → Option Rule
-store_rule part m = if nat_le 100000 (length (live m part.rows)) then Some (StoreFull (length (live m part.rows))) else None
+store_rule part m =
+    if nat_le 100000 (length (live m part.rows)) then Some (StoreFull (length (live m part.rows))) else None
 
 abbrev pub put_rule : QueuePart → ℕ → List ℕ → ℕ → Option ℕ → List ℕ → Option Rule
 put_rule part m queue delay ttl text =
-    first_broken (text_rule text ∷ ttl_rule ttl ∷ delay_rule delay ttl ∷ queue_rule part queue ∷ store_rule part m ∷ [])
+    first_broken
+    (text_rule text ∷ ttl_rule ttl ∷ delay_rule delay ttl ∷ queue_rule part queue ∷ store_rule part m ∷ [])
 
 abbrev pub take_rule : QueuePart → List ℕ → ℕ → ℕ → Option Rule
-take_rule part queue count hold = first_broken (range_rule count 1 32 ∷ range_rule hold 1 604800 ∷ queue_rule part queue ∷ [])
+take_rule part queue count hold =
+    first_broken (range_rule count 1 32 ∷ range_rule hold 1 604800 ∷ queue_rule part queue ∷ [])
 
 abbrev pub peek_rule : QueuePart → List ℕ → ℕ → Option Rule
 peek_rule part queue count = first_broken (range_rule count 1 32 ∷ queue_rule part queue ∷ [])
@@ -63,4 +68,5 @@ message_rule part m queue number receipt =
 
 abbrev pub update_rule : QueuePart → ℕ → List ℕ → ℕ → ℕ → ℕ → Option (List ℕ) → Option Rule
 update_rule part m queue number receipt hold text =
-    first_broken (new_text_rule text ∷ range_rule hold 0 604800 ∷ message_rule part m queue number receipt ∷ [])
+    first_broken
+    (new_text_rule text ∷ range_rule hold 0 604800 ∷ message_rule part m queue number receipt ∷ [])

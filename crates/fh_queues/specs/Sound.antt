@@ -4,7 +4,7 @@ use Rattle.std.specs.List.{list_all}
 use Rattle.fh_queues.specs.declared.row.Message.{Message}
 use Rattle.fh_queues.specs.Part.{QueuePart}
 
--- a row's count is at most its receipt, which was given out
+-- a row's count is at most its receipt, which is below the next one
 abbrev pub is_counted : ℕ → Message → Bool
 is_counted next_receipt row = nat_le row.count row.receipt && nat_lt row.receipt next_receipt
 

@@ -7,7 +7,9 @@ use fh_event::Text;
 #[derive(Clone, Copy)]
 pub enum QueueAsk<'a> {
     /// Makes a queue.
-    Make { queue: QueueName },
+    Make {
+        queue: QueueName,
+    },
     /// Adds a message; without a time to live it never expires.
     Put {
         queue: QueueName,
@@ -37,7 +39,9 @@ pub enum QueueAsk<'a> {
         receipt: u64,
     },
     /// Removes all messages of a queue.
-    Clear { queue: QueueName },
+    Clear {
+        queue: QueueName,
+    },
     /// Only drops the rows that aren't live.
     Sweep,
 }

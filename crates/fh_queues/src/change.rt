@@ -4,21 +4,31 @@ use fh_base::{Moment, QueueName};
 use fh_event::{Items, Text};
 use std::marker::Model;
 
-// What is changed, where the row of a put is kept elsewhere.
+// What is changed. The row of a put is kept beside it.
 #[derive(Drop)]
 pub(crate) enum Edit {
-    Make { queue: QueueName },
+    Make {
+        queue: QueueName,
+    },
     LeaveThere,
     Put,
-    Hold { until: u64, items: Items },
+    Hold {
+        until: u64,
+        items: Items,
+    },
     LeaveEmpty,
     Renew {
         number: u64,
         until: u64,
         text: Option<Text>,
     },
-    Delete { number: u64 },
-    Clear { queue: QueueName, count: u64 },
+    Delete {
+        number: u64,
+    },
+    Clear {
+        queue: QueueName,
+        count: u64,
+    },
     Sweep,
 }
 
@@ -58,7 +68,7 @@ impl QueueChange {
     ghost use Rattle.fh_queues.specs.Outcome.{is_quiet};
     ghost use Rattle.fh_queues.specs.Edits.{planned};
 
-    /// What is answered where nothing changes, since the queue is there or has no message to act on.
+    /// What is answered where nothing changes: the queue is there, or has no message to act on.
     pub fn quiet(&self) -> Option<QueueDone>
         ensures { (part : QueuePart) → MatchOption result (is_quiet (planned part self.now).1 ≡ false)
             (λ done. (planned part self.now ≡ (part, done)) × (is_quiet done ≡ true)) }

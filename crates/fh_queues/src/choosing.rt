@@ -12,8 +12,15 @@ use fh_event::{Item, Items};
 use std::alloc::Global;
 
 /// The first visible messages of a queue, at most so many.
-pub(crate) fn chosen<'a>(alloc: Global, rows: &'a [Message], queue: &QueueName, count: u64, m: Moment) -> Result<Vec<&'a Message>, NoMemory>
-    ensures { IfOk result (λ found. map (λ row. row.now) found.items ≡ take count (visible queue.now m rows.entry.now)) }
+pub(crate) fn chosen<'a>(
+    alloc: Global,
+    rows: &'a [Message],
+    queue: &QueueName,
+    count: u64,
+    m: Moment,
+) -> Result<Vec<&'a Message>, NoMemory>
+    ensures { IfOk result
+        (λ found. map (λ row. row.now) found.items ≡ take count (visible queue.now m rows.entry.now)) }
 {
     let mut found = Vec::new(alloc);
     for row in rows {

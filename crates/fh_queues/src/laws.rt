@@ -1,4 +1,4 @@
-//! What holds of the queues after any list of asks from no queues on. What is refused changes nothing.
+//! What holds of the queues after any list of asks, from no queues on. What is refused changes nothing.
 
 ghost use Rattle.std.specs.Prelude.{ℕ, ◌≤◌, List};
 ghost use Rattle.fh_queues.specs.Part.{QueuePart};
@@ -31,7 +31,7 @@ pub fn rows_are_in_order()
     ensures { (history : List Asked) → IsOldestFirst history }
 {}
 
-/// The count of a message is at most its receipt, which was given out.
+/// The count of a message is at most its receipt, which is below the next one.
 pub fn counts_stay_below_receipts()
     ensures { (history : List Asked) → IsSound (part_after history) }
 {}

@@ -1,7 +1,7 @@
 //! Queues of messages: visibility, receipts, dequeue counts and expiry.
 //!
-//! Promised to the layer above: contracts see the queues, the rows of messages, the ends of messages that
-//! are gone and two counters. `plan` answers what an ask makes of them at a moment, or the rule that
+//! Promised to the layer above: contracts see the queues, the rows of messages, the ends of messages
+//! that are gone and two counters. `plan` answers what an ask makes of them at a moment, or the rule that
 //! refuses it; `stage` takes all the memory of the change, and then `settle` makes exactly it and
 //! `unstage` makes nothing, both without memory. Rows that aren't live at the moment of a change go first
 //! and are noted as expired. `peek`, `live`, `row` and `place_of` read. `laws` says what holds after any
@@ -33,3 +33,6 @@ pub use laws::{
 };
 pub use queues::Queues;
 pub use row::{About, Message};
+
+#[cfg(test)]
+mod tests;

@@ -1,12 +1,11 @@
-// The lists by which the queues are kept, and how each change is made in them. None of them takes memory.
+// The lists by which the queues are kept, and how each change is made in them. No change takes memory.
 ghost use Rattle.std.specs.Prelude.{◌≡◌, ◌+◌, ◌-◌, ◌<◌, ◌≤◌, ◌^◌, length, Option, vec_len, vec_capacity};
 ghost use Rattle.fh_queues.specs.Part.{no_queues, swept, with_queue, with_row, with_items, with_renewal, with_end, cleared, rows_of};
 ghost use Rattle.fh_queues.specs.Edits.{edited, HasNumbers};
 ghost use Rattle.fh_queues.specs.Lists.{part_of, end_room};
 
 use crate::change::Edit;
-use crate::rows;
-use crate::{End, Ending, Message, QueueDone};
+use crate::{End, Ending, Message, QueueDone, rows};
 use fh_base::{Moment, QueueName};
 use fh_event::{Item, Text};
 use std::alloc::Global;
@@ -33,8 +32,8 @@ impl Lists {
         }
     }
 
-    /// Makes an edit, with the row of a put. There has to be room for one more queue and row, and for the end
-    /// of each row and of that one.
+    /// Makes an edit, with the row of a put. There has to be room for one more queue and row, and for the
+    /// end of each row and of that one.
     pub(crate) fn edit(&mut self, row: Option<Message>, m: Moment, edit: Edit) -> QueueDone
         requires numbers { HasNumbers (part_of self.old) }
         requires queues { vec_len self.old.queues + 1 ≤ vec_capacity self.old.queues }
@@ -90,7 +89,8 @@ impl Lists {
         requires { vec_len self.old.rows + 1 ≤ end_room self.old }
         ensures part { part_of self.new ≡ swept m (part_of self.old) }
         ensures queues { self.new.queues ≡ self.old.queues }
-        ensures rows { (vec_capacity self.new.rows ≡ vec_capacity self.old.rows) × (vec_len self.new.rows ≤ vec_len self.old.rows) }
+        ensures rows { vec_len self.new.rows ≤ vec_len self.old.rows }
+        ensures row_room { vec_capacity self.new.rows ≡ vec_capacity self.old.rows }
         ensures ends { vec_len self.new.rows + 1 ≤ end_room self.new }
     {
         rows::sweep(&mut self.rows, &mut self.ends, m);

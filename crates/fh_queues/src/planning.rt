@@ -5,7 +5,7 @@ ghost use Rattle.fh_queues.specs.Rows.{live};
 ghost use Rattle.fh_queues.specs.Part.{expiry_after, rows_of};
 ghost use Rattle.fh_queues.specs.Outcome.{outcome, making, putting, taking, updating, deleting, emptying};
 ghost use Rattle.fh_queues.specs.Edits.{IsIdle, HasNumbers, planned};
-ghost use Rattle.fh_queues.specs.Faults.{IsFaultOf};
+ghost use Rattle.fh_queues.specs.Faults.{IsPlanOf};
 
 use crate::change::Edit;
 use crate::choosing::{chosen, taken_items};
@@ -17,14 +17,18 @@ use std::alloc::Global;
 const MILLISECONDS: u64 = 1000;
 
 impl Queues {
-    /// The change that an ask makes at a moment, or the rule that refuses it. Rules are tested in the order
-    /// of their numbers.
+    /// The change that an ask makes at a moment, or the rule that refuses it. Rules are tested in the
+    /// order of their numbers.
     #[tactic(auto, unfolding(crate::specs::Outcome::outcome))]
-    pub fn plan(&self, alloc: Global, ask: &QueueAsk<'_>, m: Moment) -> Result<QueueChange, PlanFault>
+    pub fn plan(
+        &self,
+        alloc: Global,
+        ask: &QueueAsk<'_>,
+        m: Moment,
+    ) -> Result<QueueChange, PlanFault>
         requires idle { IsIdle self.now }
         requires numbers { HasNumbers self.now.part }
-        ensures ok { IfOk result (λ change. outcome self.now.part (ask_of ask.now) m ≡ Ok (planned self.now.part change)) }
-        ensures err { IfErr result (λ fault. IsFaultOf fault (outcome self.now.part (ask_of ask.now) m)) }
+        ensures { IsPlanOf self.now.part (outcome self.now.part (ask_of ask.now) m) result }
     {
         match ask {
             QueueAsk::Make { queue } => Ok(self.plan_make(queue, m)),
@@ -72,8 +76,9 @@ impl Queues {
         text: &Text,
         about: Option<&About>,
     ) -> Result<QueueChange, PlanFault>
-        ensures ok { IfOk result (λ change. putting self.now.part m queue.now delay ttl text.now (option_map (λ a. a.now) about.entry) ≡ Ok (planned self.now.part change)) }
-        ensures err { IfErr result (λ fault. IsFaultOf fault (putting self.now.part m queue.now delay ttl text.now (option_map (λ a. a.now) about.entry))) }
+        ensures { IsPlanOf self.now.part
+            (putting self.now.part m queue.now delay ttl text.now (option_map (λ a. a.now) about.entry))
+            result }
     {
         if let Some(rule) = self.put_rule(m, queue, delay, ttl, text) {
             return Err(PlanFault::Rule(rule));
@@ -97,10 +102,16 @@ impl Queues {
         })
     }
 
-    fn plan_take(&self, alloc: Global, m: Moment, queue: &QueueName, count: u64, hold: u64) -> Result<QueueChange, PlanFault>
+    fn plan_take(
+        &self,
+        alloc: Global,
+        m: Moment,
+        queue: &QueueName,
+        count: u64,
+        hold: u64,
+    ) -> Result<QueueChange, PlanFault>
         requires numbers { HasNumbers self.now.part }
-        ensures ok { IfOk result (λ change. taking self.now.part m queue.now count hold ≡ Ok (planned self.now.part change)) }
-        ensures err { IfErr result (λ fault. IsFaultOf fault (taking self.now.part m queue.now count hold)) }
+        ensures { IsPlanOf self.now.part (taking self.now.part m queue.now count hold) result }
     {
         if let Some(rule) = self.take_rule(queue, count, hold) {
             return Err(PlanFault::Rule(rule));
@@ -124,20 +135,33 @@ impl Queues {
         hold: u64,
         text: Option<&Text>,
     ) -> Result<QueueChange, PlanFault>
-        ensures ok { IfOk result (λ change. updating self.now.part m queue.now number receipt hold (option_map (λ t. t.now) text.entry) ≡ Ok (planned self.now.part change)) }
-        ensures err { IfErr result (λ fault. IsFaultOf fault (updating self.now.part m queue.now number receipt hold (option_map (λ t. t.now) text.entry))) }
+        ensures { IsPlanOf self.now.part
+            (updating self.now.part m queue.now number receipt hold (option_map (λ t. t.now) text.entry))
+            result }
     {
         if let Some(rule) = self.update_rule(m, queue, number, receipt, hold, text) {
             return Err(PlanFault::Rule(rule));
         }
         let text = text_of(alloc, text)?;
         let until = m.ms() + hold * MILLISECONDS;
-        Ok(QueueChange::of(m, Edit::Renew { number, until, text }))
+        Ok(QueueChange::of(
+            m,
+            Edit::Renew {
+                number,
+                until,
+                text,
+            },
+        ))
     }
 
-    fn plan_delete(&self, m: Moment, queue: &QueueName, number: u64, receipt: u64) -> Result<QueueChange, PlanFault>
-        ensures ok { IfOk result (λ change. deleting self.now.part m queue.now number receipt ≡ Ok (planned self.now.part change)) }
-        ensures err { IfErr result (λ fault. IsFaultOf fault (deleting self.now.part m queue.now number receipt)) }
+    fn plan_delete(
+        &self,
+        m: Moment,
+        queue: &QueueName,
+        number: u64,
+        receipt: u64,
+    ) -> Result<QueueChange, PlanFault>
+        ensures { IsPlanOf self.now.part (deleting self.now.part m queue.now number receipt) result }
     {
         if let Some(rule) = self.message_rule(m, queue, number, receipt) {
             return Err(PlanFault::Rule(rule));
@@ -146,8 +170,7 @@ impl Queues {
     }
 
     fn plan_clear(&self, m: Moment, queue: &QueueName) -> Result<QueueChange, PlanFault>
-        ensures ok { IfOk result (λ change. emptying self.now.part m queue.now ≡ Ok (planned self.now.part change)) }
-        ensures err { IfErr result (λ fault. IsFaultOf fault (emptying self.now.part m queue.now)) }
+        ensures { IsPlanOf self.now.part (emptying self.now.part m queue.now) result }
     {
         if let Some(rule) = self.queue_rule(queue) {
             return Err(PlanFault::Rule(rule));
@@ -156,7 +179,13 @@ impl Queues {
         if count == 0 {
             return Ok(QueueChange::of(m, Edit::LeaveEmpty));
         }
-        Ok(QueueChange::of(m, Edit::Clear { queue: *queue, count }))
+        Ok(QueueChange::of(
+            m,
+            Edit::Clear {
+                queue: *queue,
+                count,
+            },
+        ))
     }
 
     // How many live messages a queue has.

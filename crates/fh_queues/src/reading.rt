@@ -15,7 +15,13 @@ use std::alloc::Global;
 impl Queues {
     /// The first visible messages of a queue as they are, at most so many.
     #[tactic(auto, unfolding(crate::specs::Outcome::peeked))]
-    pub fn peek(&self, alloc: Global, queue: &QueueName, count: u64, m: Moment) -> Result<Items, PlanFault>
+    pub fn peek(
+        &self,
+        alloc: Global,
+        queue: &QueueName,
+        count: u64,
+        m: Moment,
+    ) -> Result<Items, PlanFault>
         ensures ok { IfOk result (λ items. peeked self.now.part queue.now count m ≡ Ok items) }
         ensures err { IfErr result (λ fault. IsFaultOf fault (peeked self.now.part queue.now count m)) }
     {
@@ -37,7 +43,10 @@ impl Queues {
     pub fn row(&self, number: u64, m: Moment) -> Option<&Message>
         ensures { option_copied result ≡ live_row number m self.now.part.rows }
     {
-        self.lists.rows.iter().find(|row| row.number == number && row.is_live(m))
+        self.lists
+            .rows
+            .iter()
+            .find(|row| row.number == number && row.is_live(m))
     }
 
     /// Where the message of that number is.
@@ -57,16 +66,18 @@ impl Queues {
         ensures { result ≡ has_queue self.now.part.queues queue.now }
     {
         let wanted = queue.as_bytes();
-        self.lists.queues.iter().any(|name| name.as_bytes() == wanted)
+        self.lists
+            .queues
+            .iter()
+            .any(|name| name.as_bytes() == wanted)
     }
 
     pub(crate) fn row_in(&self, queue: &QueueName, number: u64, m: Moment) -> Option<&Message>
         ensures { option_copied result ≡ row_in queue.now number m self.now.part.rows }
     {
-        self.lists
-            .rows
-            .iter()
-            .find(|row| row.number == number && row.is_of(queue) && row.is_live(m))
+        self.lists.rows.iter().find(|row| row.number == number
+            && row.is_of(queue)
+            && row.is_live(m))
     }
 
     fn row_of(&self, number: u64) -> Option<&Message>

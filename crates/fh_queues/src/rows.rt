@@ -64,7 +64,7 @@ pub(crate) fn remove(rows: &mut Vec<Message>, number: u64)
     }
 }
 
-/// Takes the rows out that aren't live, and notes their ends. There has to be room for the end of each row.
+/// Takes the rows out that aren't live, and notes their ends. There has to be room for these.
 pub(crate) fn sweep(rows: &mut Vec<Message>, ends: &mut Vec<End>, m: Moment)
     requires { vec_len ends.old + vec_len rows.old ≤ vec_capacity ends.old }
     ensures rows { rows.new.items ≡ live m rows.old.items }
@@ -89,7 +89,7 @@ fn note_expired(rows: &[Message], ends: &mut Vec<End>, m: Moment)
     }
 }
 
-/// Takes all rows of a queue out, and notes their ends. There has to be room for the end of each row.
+/// Takes all rows of a queue out, and notes their ends. There has to be room for these.
 pub(crate) fn clear(rows: &mut Vec<Message>, ends: &mut Vec<End>, queue: &QueueName)
     requires { vec_len ends.old + vec_len rows.old ≤ vec_capacity ends.old }
     ensures rows { rows.new.items ≡ filter (λ row. not (is_of queue.now row)) rows.old.items }

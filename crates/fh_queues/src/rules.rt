@@ -23,7 +23,14 @@ const MOST_TTL: u64 = 2_147_483_647;
 const MOST_COUNT: u64 = 32;
 
 impl Queues {
-    pub(crate) fn put_rule(&self, m: Moment, queue: &QueueName, delay: u64, ttl: Option<u64>, text: &Text) -> Option<Rule>
+    pub(crate) fn put_rule(
+        &self,
+        m: Moment,
+        queue: &QueueName,
+        delay: u64,
+        ttl: Option<u64>,
+        text: &Text,
+    ) -> Option<Rule>
         ensures { result ≡ put_rule self.now.part m queue.now delay ttl text.now }
     {
         if let Some(rule) = text_rule(text) {
@@ -71,7 +78,8 @@ impl Queues {
         hold: u64,
         text: Option<&Text>,
     ) -> Option<Rule>
-        ensures { result ≡ update_rule self.now.part m queue.now number receipt hold (option_map (λ t. t.now) text.entry) }
+        ensures { result
+            ≡ update_rule self.now.part m queue.now number receipt hold (option_map (λ t. t.now) text.entry) }
     {
         if let Some(rule) = new_text_rule(text) {
             return Some(rule);
@@ -82,13 +90,19 @@ impl Queues {
         self.message_rule(m, queue, number, receipt)
     }
 
-    pub(crate) fn message_rule(&self, m: Moment, queue: &QueueName, number: u64, receipt: u64) -> Option<Rule>
+    pub(crate) fn message_rule(
+        &self,
+        m: Moment,
+        queue: &QueueName,
+        number: u64,
+        receipt: u64,
+    ) -> Option<Rule>
         ensures { result ≡ message_rule self.now.part m queue.now number receipt }
     {
-        if let Some(rule) = self.queue_rule(queue) {
-            return Some(rule);
+        match self.queue_rule(queue) {
+            Some(rule) => Some(rule),
+            None => receipt_rule(self.row_in(queue, number, m), receipt),
         }
-        receipt_rule(self.row_in(queue, number, m), receipt)
     }
 
     pub(crate) fn queue_rule(&self, queue: &QueueName) -> Option<Rule>

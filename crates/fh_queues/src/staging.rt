@@ -12,7 +12,8 @@ impl Queues {
         requires numbers { HasNumbers self.old.part }
         requires planned { IsOutcome self.old.part (planned self.old.part change) }
         ensures part { self.new.part ≡ self.old.part }
-        ensures ok { IfOk result (λ staged. (made self.new staged ≡ planned self.old.part change) × IsStaged self.new staged) }
+        ensures change { IfOk result (λ staged. made self.new staged ≡ planned self.old.part change) }
+        ensures staged { IfOk result (λ staged. IsStaged self.new staged) }
         ensures err { OnErr result (IsIdle self.new) }
     {
         let QueueChange { moment, row, edit } = change;

@@ -1,4 +1,4 @@
-use Rattle.std.proofs.Common.{rules, arith, ◌≡◌, sym, ◌∙◌, length, take}
+use Rattle.std.proofs.Common.{arith, ◌≡◌, sym, ◌∙◌, length, take}
 use Rattle.std.proofs.lemmas.Grind.{common_steps}
 use Rattle.fh_queues.specs.Rows.{is_visible, visible}
 use Rattle.fh_queues.proofs.Filters.{take_filter-full}

@@ -1,4 +1,4 @@
-use Rattle.std.proofs.Common.{◌≡◌, ◌≤◌, take, map, length, vec_len}
+use Rattle.std.proofs.Common.{◌≡◌, ◌≤◌, take, map, vec_len}
 use Rattle.fh_queues.specs.Rows.{visible}
 use Rattle.fh_queues.proofs.choosing.chosen.Given as goal
 

@@ -1,6 +1,6 @@
-use Rattle.std.proofs.Common.{rules, arith, ◌≡◌, sym, ◌∙◌}
+use Rattle.std.proofs.Common.{rules, arith, sym}
 use Rattle.std.proofs.lemmas.Grind.{common_steps}
-use Rattle.fh_queues.specs.Part.{held, with_item}
+use Rattle.fh_queues.specs.Part.{held}
 use Rattle.fh_queues.proofs.Changes.{with_change-none, with_change-at}
 use Rattle.fh_queues.proofs.rows.hold_one.Goals as goal
 

@@ -1,4 +1,4 @@
-use Rattle.std.proofs.Common.{rules, arith, ◌≡◌, sym}
+use Rattle.std.proofs.Common.{rules, arith, sym}
 use Rattle.std.proofs.lemmas.Grind.{common_steps}
 use Rattle.fh_queues.proofs.Changes.{without-none, without-at}
 use Rattle.fh_queues.proofs.rows.remove.Goals as goal

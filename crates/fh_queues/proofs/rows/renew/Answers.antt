@@ -1,4 +1,4 @@
-use Rattle.std.proofs.Common.{rules, arith, ◌≡◌, sym, ◌∙◌}
+use Rattle.std.proofs.Common.{rules, arith, sym}
 use Rattle.std.proofs.lemmas.Grind.{common_steps}
 use Rattle.fh_queues.specs.Part.{renewed}
 use Rattle.fh_queues.proofs.Changes.{with_change-none, with_change-at}

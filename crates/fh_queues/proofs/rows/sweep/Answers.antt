@@ -1,9 +1,6 @@
-use Rattle.std.proofs.Common.{rules, ◌≡◌, arith}
+use Rattle.std.proofs.Common.{rules, arith}
 use Rattle.std.proofs.lemmas.Fn.{filter_same}
-use Rattle.std.proofs.lemmas.List.{length-map}
 use Rattle.std.proofs.lemmas.Grind.{common_steps}
-use Rattle.fh_queues.specs.Rows.{dead, live}
-use Rattle.fh_queues.specs.Part.{expired}
 use Rattle.fh_queues.proofs.Filters.{live_and_dead}
 use Rattle.fh_queues.proofs.rows.sweep.Goals as goal
 

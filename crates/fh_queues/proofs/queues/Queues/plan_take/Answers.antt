@@ -1,7 +1,7 @@
-use Rattle.std.proofs.Common.{rules, arith, ◌≡◌, map, take}
+use Rattle.std.proofs.Common.{arith, ◌≡◌, map, take}
 use Rattle.std.proofs.lemmas.Grind.{common_steps}
 use Rattle.fh_queues.specs.Rows.{is_visible, visible}
-use Rattle.fh_queues.specs.Sound.{IsSound, is_counted}
+use Rattle.fh_queues.specs.Sound.{is_counted}
 use Rattle.fh_queues.proofs.Filters.{list_all-filter, list_all-take}
 use Rattle.fh_queues.proofs.queues.Queues.plan_take.Goals as goal
 

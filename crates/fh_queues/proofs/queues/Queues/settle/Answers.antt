@@ -1,9 +1,8 @@
-use Rattle.std.proofs.Common.{rules, arith, ◌≡◌, subst, sym}
+use Rattle.std.proofs.Common.{◌≡◌, subst, sym}
 use Rattle.std.specs.Prelude.{Ok}
 use Rattle.fh_queues.specs.Edits.{QueueState, Staged, edited, made}
 use Rattle.fh_queues.specs.Lists.{part_of}
 use Rattle.fh_queues.specs.Outcome.{outcome}
-use Rattle.fh_queues.specs.Part.{QueuePart}
 use Rattle.fh_queues.specs.Sound.{IsSound}
 use Rattle.fh_queues.proofs.Sounds.{Sound-outcome}
 use Rattle.fh_queues.proofs.queues.Queues.settle.Goals as goal

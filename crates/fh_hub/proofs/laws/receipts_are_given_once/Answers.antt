@@ -1,0 +1,5 @@
+use Rattle.fh_hub.proofs.Tallies.{tallies}
+use Rattle.fh_hub.proofs.laws.receipts_are_given_once.Goals as goal
+
+pub returns : goal.returns
+returns c = λ history. (tallies history).receipt_once

@@ -1,0 +1,47 @@
+//! What holds of every history. The world and the history of a hub are such a pair.
+
+ghost use Rattle.std.specs.Prelude.{ℕ, ◌≤◌, List};
+ghost use Rattle.std.specs.List.{All};
+ghost use Rattle.fh_hub.specs.Replay.{Entry, trace, replay, IsLegal};
+ghost use Rattle.fh_hub.specs.Laws.{births, receipts};
+ghost use Rattle.fh_hub.specs.Places.{IsInOnePlace, IsLocated};
+ghost use Rattle.fh_hub.specs.Guards.{GuardsMessages, RisesOver, HasOwnMoment};
+
+/// A number is given to one message at most.
+pub fn numbers_are_given_once()
+    ensures { (history : List Entry) (n : ℕ) → births n (trace history) ≤ 1 }
+{}
+
+/// A receipt is given out once at most, over all replies.
+pub fn receipts_are_given_once()
+    ensures { (history : List Entry) (k : ℕ) → receipts k (trace history) ≤ 1 }
+{}
+
+/// At each moment from the last one on, a message that was born stands in exactly one place: it waits, it
+/// is held, a client removed it, or it has expired, which one without a time to live never does.
+pub fn messages_are_in_one_place()
+    ensures { (history : List Entry) (n t : ℕ) → (replay history).last ≤ t → IsInOnePlace history n t }
+{}
+
+/// Where the world says that a message is, there it is by the events: waiting or held in the queue into
+/// which it was put, until the end of its last hold, removed, expired, or unknown where it isn't born.
+pub fn messages_are_located()
+    ensures { (history : List Entry) (n t : ℕ) → (replay history).last ≤ t → IsLocated history n t }
+{}
+
+/// No old receipt changes a message. In each event a live one stays as it is, unless a take of its queue
+/// lists it, an update or a delete has its newest receipt, or its queue is cleared; and a message that
+/// changes has a newer receipt.
+pub fn receipts_guard_messages()
+    ensures { (history : List Entry) → All GuardsMessages (trace history) }
+{}
+
+/// Over any later entries, a message that still stands is the same or has a newer receipt.
+pub fn receipts_only_rise()
+    ensures { (history entries : List Entry) → RisesOver history entries }
+{}
+
+/// Events of a legal history act at the moments of their entries.
+pub fn legal_events_have_their_moments()
+    ensures { (history : List Entry) → IsLegal history → All HasOwnMoment (trace history) }
+{}

@@ -1,0 +1,302 @@
+use super::*;
+use fh_base::{Failing, FaultPlan, Moment};
+use fh_disk::{Disk, MemoryDisk};
+use fh_event::{Command, EventFault, Place, StepFault, Text, answer_text};
+use fh_journal::FrameRule;
+use std::alloc::Global;
+use std::test::Fail;
+
+const HEADER: [u8; 6] = [0x46, 0x4E, 0x48, 0x4A, 0, 1];
+
+// A disk with these bytes, of which so many calls pass.
+fn disk_of(alloc: Global, bytes: &[u8], passed: u64) -> Result<MemoryDisk, Fail> {
+    let plan = FaultPlan::new(Failing::After { passed });
+    Ok(MemoryDisk::recording(alloc, bytes.to_vec(alloc)?, plan)?)
+}
+
+fn make(alloc: Global) -> Result<Command, Fail> {
+    let queue = Text::from_str(alloc, "orders")?;
+    Ok(Command::MakeQueue { queue })
+}
+
+fn put(alloc: Global, text: &str) -> Result<Command, Fail> {
+    Ok(Command::Put {
+        queue: Text::from_str(alloc, "orders")?,
+        delay: 0,
+        ttl: None,
+        text: Text::from_str(alloc, text)?,
+    })
+}
+
+fn take(alloc: Global) -> Result<Command, Fail> {
+    Ok(Command::Take {
+        queue: Text::from_str(alloc, "orders")?,
+        count: 1,
+        hold: 30,
+    })
+}
+
+// What a script prints for the step.
+fn answer<J: Disk>(
+    alloc: Global,
+    hub: &mut Hub<'_, J>,
+    command: &Command,
+    now: u64,
+) -> Result<String, Fail> {
+    match hub.step(alloc, command, now) {
+        Ok(reply) => Ok(answer_text(alloc, Ok(&reply))?),
+        Err(StepFault::Rule(rule)) => Ok(answer_text(alloc, Err(&rule))?),
+        Err(StepFault::NoMemory) => Err(Fail::from("no memory")),
+        Err(StepFault::DiskFault) => Err(Fail::from("disk fault")),
+    }
+}
+
+fn mounted<'d>(alloc: Global, disk: &'d mut MemoryDisk) -> Result<Hub<'d, MemoryDisk>, Fail> {
+    match Hub::mount(alloc, disk) {
+        Ok(hub) => Ok(hub),
+        Err(_) => Err(Fail::from("not mounted")),
+    }
+}
+
+#[test]
+fn each_kind_of_step_is_answered_and_replayed(rt: HostRuntime) -> Result<(), Fail> {
+    let alloc = rt.alloc();
+    let queue = || Text::from_str(alloc, "orders");
+    let update = Command::Update {
+        queue: queue()?,
+        number: 1,
+        receipt: 2,
+        hold: 60,
+        text: Some(Text::from_str(alloc, "ho")?),
+    };
+    let delete = Command::Delete {
+        queue: queue()?,
+        number: 1,
+        receipt: 3,
+    };
+    let peek = Command::Peek {
+        queue: queue()?,
+        count: 32,
+    };
+    let steps: [(u64, Command, &str); 11] = [
+        (9000, make(alloc)?, "ok"),
+        (0, make(alloc)?, "quiet there"),
+        (5000, put(alloc, "hi")?, "ok 1 1"),
+        (0, take(alloc)?, "ok 1 1:2:1:hi"),
+        (0, take(alloc)?, "quiet empty"),
+        (0, update, "ok 3"),
+        (0, Command::Locate { number: 1 }, "is held orders 69000"),
+        (0, delete, "ok"),
+        (0, put(alloc, "b")?, "ok 2 4"),
+        (0, peek, "is 1 2:0:b"),
+        (0, Command::Clear { queue: queue()? }, "ok 1"),
+    ];
+    let mut disk = disk_of(alloc, b"", 999)?;
+    let mut hub = mounted(alloc, &mut disk)?;
+    for (now, command, expected) in &steps {
+        assert_eq!(rt; answer(alloc, &mut hub, command, *now)?.as_str(), *expected);
+    }
+    assert_eq!(rt; hub.history().len(), 7);
+    hub.close();
+    let mut again = disk_of(alloc, disk.bytes(), 999)?;
+    let hub = mounted(alloc, &mut again)?;
+    assert_eq!(rt; (hub.history().len(), hub.history().is_empty()), (7, false));
+    let first = [
+        0, 0, 0, 0, 0, 0, 0x23, 0x28, 1, 0, 0, 0, 6, b'o', b'r', b'd', b'e', b'r', b's',
+    ];
+    assert_eq!(rt; hub.history().entry(0), Some(first.as_slice()));
+    assert_eq!(rt; hub.history().entry(7), None);
+    hub.close();
+    Ok(())
+}
+
+#[test]
+fn places_of_messages(rt: HostRuntime) -> Result<(), Fail> {
+    let alloc = rt.alloc();
+    let mut disk = disk_of(alloc, b"", 999)?;
+    let mut hub = mounted(alloc, &mut disk)?;
+    for (command, expected) in [
+        (make(alloc)?, "ok"),
+        (put(alloc, "a")?, "ok 1 1"),
+        (take(alloc)?, "ok 1 1:2:1:a"),
+    ] {
+        assert_eq!(rt; answer(alloc, &mut hub, &command, 1000)?.as_str(), expected);
+    }
+    let before = hub.place_of(1, Moment::new(0).unwrap());
+    assert!(rt; matches!(before, Place::Held { until: 31000, .. }));
+    let after = hub.place_of(1, Moment::new(31000).unwrap());
+    assert!(rt; matches!(after, Place::Waiting { .. }));
+    let unborn = hub.place_of(2, Moment::new(0).unwrap());
+    assert!(rt; matches!(unborn, Place::Unknown));
+    hub.close();
+    Ok(())
+}
+
+#[test]
+fn steps_that_record_nothing_make_no_call(rt: HostRuntime) -> Result<(), Fail> {
+    let alloc = rt.alloc();
+    let mut disk = disk_of(alloc, b"", 99)?;
+    let mut hub = mounted(alloc, &mut disk)?;
+    assert_eq!(rt; answer(alloc, &mut hub, &make(alloc)?, 0)?.as_str(), "ok");
+    let cases: [(Command, u64, &str); 4] = [
+        (make(alloc)?, 0, "quiet there"),
+        (take(alloc)?, 0, "quiet empty"),
+        (Command::Locate { number: 1 }, 0, "is unknown"),
+        (make(alloc)?, 253402300800000, "no 1 MomentTooLate"),
+    ];
+    for (command, now, expected) in &cases {
+        assert_eq!(rt; answer(alloc, &mut hub, command, *now)?.as_str(), *expected);
+    }
+    let disk = hub.close();
+    // A mount with its write and its two syncs, and the four calls of one append.
+    assert_eq!(rt; disk.calls().len(), 7);
+    Ok(())
+}
+
+#[test]
+fn a_stop_in_an_append(rt: HostRuntime) -> Result<(), Fail> {
+    let alloc = rt.alloc();
+    for passed in 1..5 {
+        let mut disk = disk_of(alloc, b"", 99)?;
+        let mut hub = mounted(alloc, &mut disk)?;
+        assert_eq!(rt; answer(alloc, &mut hub, &make(alloc)?, 0)?.as_str(), "ok");
+        hub.journal.disk.stop_after(passed);
+        let _step = hub.step(alloc, &put(alloc, "hi")?, 0);
+        let disk = hub.close();
+        for choice in 0..8 {
+            let mut image = disk_of(alloc, &disk.image(alloc, choice)?, 99)?;
+            let hub = mounted(alloc, &mut image)?;
+            let entries = hub.history().len();
+            assert!(rt; entries == 1 && passed < 4 || entries == 2 && passed > 2);
+            hub.close();
+        }
+    }
+    Ok(())
+}
+
+#[test]
+fn a_fault_then_ok(rt: HostRuntime) -> Result<(), Fail> {
+    let alloc = rt.alloc();
+    let mut disk = disk_of(alloc, b"", 99)?;
+    let mut hub = mounted(alloc, &mut disk)?;
+    assert_eq!(rt; answer(alloc, &mut hub, &make(alloc)?, 0)?.as_str(), "ok");
+    hub.journal.disk.stop_after(3);
+    let failed = hub.step(alloc, &put(alloc, "a")?, 0);
+    assert!(rt; matches!(failed, Err(StepFault::DiskFault)));
+    assert!(rt; hub.journal.torn());
+    assert_eq!(rt; hub.history().len(), 1);
+    hub.journal.disk.stop_after(99);
+    assert_eq!(rt;
+        answer(alloc, &mut hub, &put(alloc, "b")?, 0)?.as_str(),
+        "ok 1 1"
+    );
+    let disk = hub.close();
+    let mut again = disk_of(alloc, disk.bytes(), 99)?;
+    let hub = mounted(alloc, &mut again)?;
+    assert_eq!(rt; hub.history().len(), 2);
+    let Some(entry) = hub.history().entry(1) else {
+        return Err(Fail::from("no entry"));
+    };
+    assert!(rt; entry.ends_with(b"b"));
+    hub.close();
+    Ok(())
+}
+
+#[test]
+fn each_call_of_a_step_may_fail(rt: HostRuntime) -> Result<(), Fail> {
+    let alloc = rt.alloc();
+    for passed in 0..4 {
+        let mut disk = disk_of(alloc, b"", 99)?;
+        let mut hub = mounted(alloc, &mut disk)?;
+        hub.journal.disk.stop_after(passed);
+        let failed = hub.step(alloc, &make(alloc)?, 0);
+        assert!(rt; matches!(failed, Err(StepFault::DiskFault)));
+        assert_eq!(rt; (hub.journal.torn(), hub.history().len()), (passed > 1, 0));
+        hub.close();
+    }
+    Ok(())
+}
+
+// A journal with a frame for each payload.
+fn journal_of(alloc: Global, payloads: &[&[u8]]) -> Result<Vec<u8>, Fail> {
+    let mut bytes = HEADER.to_vec(alloc)?;
+    for payload in payloads {
+        bytes.push(1)?;
+        bytes.extend_from_slice(&(payload.len() as u32).to_be_bytes())?;
+        bytes.extend_from_slice(payload)?;
+    }
+    bytes.push(0)?;
+    Ok(bytes)
+}
+
+#[test]
+fn journals_that_are_refused(rt: HostRuntime) -> Result<(), Fail> {
+    let alloc = rt.alloc();
+    const MAKE: &[u8] = b"\0\0\0\0\0\0\0\x09\x01\0\0\0\x06orders";
+    const AGAIN_EARLIER: &[u8] = b"\0\0\0\0\0\0\0\x08\x01\0\0\0\x06others";
+    const PEEK: &[u8] = b"\0\0\0\0\0\0\0\x09\x15\0\0\0\x06orders\0\0\0\0\0\0\0\x01";
+    const LONG: &[u8] = b"\0\0\0\0\0\0\0\x09\x01\x01\0\0\x01";
+    const LATE: &[u8] = b"\xff\0\0\0\0\0\0\0\x01\0\0\0\x06orders";
+    let cases: [(&[&[u8]], u64, HubRule); 9] = [
+        (
+            &[b""],
+            6,
+            HubRule::Event(EventFault::ShortField { field: 0 }),
+        ),
+        (
+            &[MAKE, b"\0\0\0\0\0\0\0\0\x63"],
+            30,
+            HubRule::Event(EventFault::BadKind { kind: 99 }),
+        ),
+        (
+            &[MAKE, LONG],
+            30,
+            HubRule::Event(EventFault::LongField { field: 1 }),
+        ),
+        (
+            &[LATE],
+            6,
+            HubRule::Event(EventFault::BadField { field: 0 }),
+        ),
+        (
+            &[b"\0\0\0\0\0\0\0\0\x01\0\0\0\x03abcd"],
+            6,
+            HubRule::Event(EventFault::Trailing { left: 1 }),
+        ),
+        (&[MAKE, MAKE], 30, HubRule::Refused),
+        (&[MAKE, AGAIN_EARLIER], 30, HubRule::Refused),
+        (&[MAKE, PEEK], 30, HubRule::Refused),
+        (&[b"\0\0\0\0\0\0\0\0\x01\0\0\0\x02ab"], 6, HubRule::Refused),
+    ];
+    for (payloads, at, rule) in cases {
+        let bytes = journal_of(alloc, payloads)?;
+        let mut disk = disk_of(alloc, &bytes, 99)?;
+        let Err((fault, disk)) = Hub::mount(alloc, &mut disk) else {
+            return Err(Fail::from("mounted"));
+        };
+        assert_eq!(rt; fault, HubFault::BadFrame { at, rule });
+        assert_eq!(rt; disk.bytes(), bytes.as_slice());
+    }
+    Ok(())
+}
+
+#[test]
+fn faults_of_frames_come_before_those_of_entries(rt: HostRuntime) -> Result<(), Fail> {
+    let alloc = rt.alloc();
+    let mut bytes = journal_of(alloc, &[b"x", b"hello"])?;
+    let _gate = bytes.pop();
+    let mut disk = disk_of(alloc, &bytes, 99)?;
+    let rule = HubRule::Frame(FrameRule::Cut);
+    assert_eq!(rt;
+        prepare(alloc, &mut disk).err(),
+        Some(HubFault::BadFrame { at: 12, rule })
+    );
+    let mut other = disk_of(alloc, b"12345678", 99)?;
+    assert_eq!(rt; prepare(alloc, &mut other).err(), Some(HubFault::BadHeader));
+    let mut failing = disk_of(alloc, b"", 0)?;
+    assert_eq!(rt;
+        prepare(alloc, &mut failing).err(),
+        Some(HubFault::DiskFault)
+    );
+    Ok(())
+}
