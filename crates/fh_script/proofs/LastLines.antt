@@ -1,15 +1,17 @@
 -- How the last line of a run stands behind its answers.
-use Rattle.std.proofs.Common.{◌≡◌, ℕ, zero, suc, ◌≤◌, List, [], ◌++◌, take, Option, refl, subst, arith, append-nil}
+use Rattle.std.proofs.Common.{◌≡◌, inl, inr, ℕ, zero, suc, ◌≤◌, ◌∷◌, List, [], ◌++◌, take, Option, refl, subst, arith, append-nil}
 use Rattle.std.specs.Io.KnownBytes.{Appends}
 use Rattle.fh_base.specs.Faults.{Rose}
 use Rattle.fh_base.proofs.Appending.{appends-append}
-use Rattle.fh_script.specs.Answers.{printed}
-use Rattle.fh_script.specs.Machine.{answer_line, run}
+use Rattle.fh_script.specs.Machine.{answer_line, printed, run}
+use Rattle.fh_hub.specs.Replay.{Entry}
+use Rattle.fh_hub.specs.declared.faults.HubFault.{HubFault}
+use Rattle.fh_hub.specs.declared.faults.HubFault.TheVariants as mounts
 use Rattle.fh_script.specs.Concluding.{Concludes}
 use Rattle.fh_script.specs.Ends.{code_of, last_line}
-use Rattle.fh_script.specs.Script.{Outside, Wrote, Answered, CutOff, HasReason, EndsBy}
+use Rattle.fh_script.specs.Script.{Outside, Wrote, Answered, AnsweredAll, AnsweredBefore, CutOff, Unmounted, HasLinesReason, HasReason, EndsBy}
 use Rattle.fh_script.specs.declared.ends.End.{End}
-use Rattle.fh_script.specs.declared.ends.End.TheVariants.{Finished, Usage, Damaged, ReadFault, DiskFault, WriteFault, LongLine, NoMemory}
+use Rattle.fh_script.specs.declared.ends.End.TheVariants.{Finished, Usage, BadHeader, BadFrame, ReadFault, DiskFault, WriteFault, LongLine, NoMemory}
 
 take-nothing : (n : ℕ) → take {A = ℕ} n [] ≡ []
 take-nothing zero = refl
@@ -21,59 +23,110 @@ behind_texts was mid now text behind one two =
     appends-append was mid now text behind (subst (λ (t : List ℕ). Appends was mid t) (append-nil text) one) two
 
 module _ (was mid : Outside) (written : Option (List ℕ)) (faults : ℕ) where
-  wrote_behind : (done more : List (List ℕ)) (behind : List ℕ) → Wrote was mid done more [] → Appends mid.written written behind
-      → Wrote was (record mid { written = written; write_faults = faults }) done more behind
-  wrote_behind done more behind it writes = record {
+  wrote_behind : (opening : List Entry) (done more : List (List ℕ)) (behind : List ℕ) → Wrote was mid opening done more [] → Appends mid.written written behind
+      → Wrote was (record mid { written = written; write_faults = faults }) opening done more behind
+  wrote_behind opening done more behind it writes = record {
+    legal = it.legal;
+    stood = it.stood;
     read = it.read;
     short = it.short;
-    texts = behind_texts was.written mid.written written (run done).written behind it.texts writes;
+    taken = it.taken;
+    consumed = it.consumed;
+    few = it.few;
+    texts = behind_texts was.written mid.written written (run opening done).written behind it.texts writes;
   }
 
   answered_behind : (more : List (List ℕ)) (behind : List ℕ) → Answered was mid more [] → Appends mid.written written behind
       → Answered was (record mid { written = written; write_faults = faults }) more behind
   answered_behind more behind it writes = record {
-    done = it.done;
-    wrote = wrote_behind it.done more behind it.wrote writes;
-    gate = it.gate;
-    stands = it.stands;
     opening = it.opening;
+    done = it.done;
+    wrote = wrote_behind it.opening it.done more behind it.wrote writes;
+    stands = it.stands;
+  }
+
+  answered_all_behind : (behind : List ℕ) → AnsweredAll was mid [] → Appends mid.written written behind
+      → AnsweredAll was (record mid { written = written; write_faults = faults }) behind
+  unfolding answered_behind wrote_behind
+  answered_all_behind behind it writes = record {
+    more = it.more;
+    answered = answered_behind it.more behind it.answered writes;
+    feeds = it.feeds;
+  }
+
+  answered_before_behind : (behind : List ℕ) → AnsweredBefore was mid [] → Appends mid.written written behind
+      → AnsweredBefore was (record mid { written = written; write_faults = faults }) behind
+  answered_before_behind behind it writes = record {
+    opening = it.opening;
+    done = it.done;
+    line = it.line;
+    more = it.more;
+    wrote = wrote_behind it.opening it.done (it.line ∷ it.more) behind it.wrote writes;
+    stands = it.stands;
   }
 
   cut_off_behind : CutOff was mid → Appends mid.written written [] → CutOff was (record mid { written = written; write_faults = faults })
   cut_off_behind it writes = record {
+    opening = it.opening;
     done = it.done;
     line = it.line;
     more = it.more;
     written = it.written;
     part = it.part;
     wrote = record {
+      legal = it.wrote.legal;
+      stood = it.wrote.stood;
       read = it.wrote.read;
       short = it.wrote.short;
+      taken = it.wrote.taken;
+      consumed = it.wrote.consumed;
+      few = it.wrote.few;
       texts =
-          subst (λ (t : List ℕ). Appends was.written written t)
-          (append-nil ((run it.done).written ++ take it.written (printed (answer_line (run it.done).world it.line).answer)))
+          let text = printed (answer_line (run it.opening it.done).world (run it.opening it.done).now it.line).text in
+          subst (λ (t : List ℕ). Appends was.written written t) (append-nil ((run it.opening it.done).written ++ take it.written text))
           (appends-append was.written mid.written written _ [] it.wrote.texts writes);
     };
-    gate = it.gate;
     stands = it.stands;
-    opening = it.opening;
+  }
+
+  unmounted_behind : (fault : HubFault) (behind : List ℕ) → Unmounted was mid fault [] → Appends mid.written written behind
+      → Unmounted was (record mid { written = written; write_faults = faults }) fault behind
+  unmounted_behind fault behind it writes = record {
+    left = it.left;
+    bytes = it.bytes;
+    texts = appends-append was.written mid.written written [] behind it.texts writes;
   }
 
   rose_on : (before : ℕ) → mid.write_faults ≤ faults → Rose before mid.write_faults → Rose before faults
   rose_on before later rose = omega (arith, later, rose)
 
+  lines_reason_behind : (end : End) (n : ℕ) → HasLinesReason was mid [] end → mid.write_faults ≤ faults → Appends mid.written written (take n (last_line end))
+      → HasLinesReason was (record mid { written = written; write_faults = faults }) (take n (last_line end)) end
+  lines_reason_behind Finished n reason later writes = (answered_behind [] _ reason.0 writes, reason.1)
+  lines_reason_behind Usage n reason later writes = absurd reason
+  lines_reason_behind BadHeader n reason later writes = absurd reason
+  lines_reason_behind (BadFrame at rule) n reason later writes = absurd reason
+  lines_reason_behind ReadFault n reason later writes = (reason.0, answered_all_behind _ reason.1 writes)
+  lines_reason_behind DiskFault n reason later writes = (reason.0, answered_before_behind _ reason.1 writes)
+  lines_reason_behind WriteFault n reason later writes =
+      (rose_on was.write_faults later reason.0, cut_off_behind reason.1 (subst (λ (t : List ℕ). Appends mid.written written t) (take-nothing n) writes))
+  lines_reason_behind LongLine n reason later writes = (reason.0, (reason.1.0, answered_behind reason.0 _ reason.1.1 writes))
+  lines_reason_behind NoMemory n (inl reason) later writes = inl (reason.0, answered_behind reason.0 _ reason.1 writes)
+  lines_reason_behind NoMemory n (inr reason) later writes = inr (answered_before_behind _ reason writes)
+
   reason_behind : (end : End) (n : ℕ) → HasReason was mid [] end → mid.write_faults ≤ faults → Appends mid.written written (take n (last_line end))
       → HasReason was (record mid { written = written; write_faults = faults }) (take n (last_line end)) end
-  reason_behind Finished n reason later writes = (answered_behind [] _ reason.0 writes, reason.1)
+  reason_behind Finished n reason later writes = lines_reason_behind Finished n reason later writes
   reason_behind Usage n reason later writes = (appends-append was.written mid.written written [] _ reason.0 writes, reason.1)
-  reason_behind Damaged n reason later writes = (reason.0, reason.1, appends-append was.written mid.written written [] _ reason.2 writes)
-  reason_behind ReadFault n reason later writes = (reason.0, (reason.1.0, answered_behind reason.1.0 _ reason.1.1 writes))
-  reason_behind DiskFault n reason later writes =
-      (reason.0, (reason.1.0, (reason.1.1.0, wrote_behind reason.1.0 reason.1.1.0 _ reason.1.1.1 writes)))
-  reason_behind WriteFault n reason later writes =
-      (rose_on was.write_faults later reason.0, cut_off_behind reason.1 (subst (λ (t : List ℕ). Appends mid.written written t) (take-nothing n) writes))
-  reason_behind LongLine n reason later writes = (reason.0, (reason.1.0, answered_behind reason.0 _ reason.1.1 writes))
-  reason_behind NoMemory n reason later writes = (reason.0, answered_behind reason.0 _ reason.1 writes)
+  reason_behind BadHeader n reason later writes = unmounted_behind mounts.BadHeader _ reason writes
+  reason_behind (BadFrame at rule) n reason later writes = unmounted_behind (mounts.BadFrame at rule) _ reason writes
+  reason_behind ReadFault n reason later writes = lines_reason_behind ReadFault n reason later writes
+  reason_behind DiskFault n (inl reason) later writes = inl (reason.0, unmounted_behind mounts.DiskFault _ reason.1 writes)
+  reason_behind DiskFault n (inr reason) later writes = inr (lines_reason_behind DiskFault n reason later writes)
+  reason_behind WriteFault n reason later writes = lines_reason_behind WriteFault n reason later writes
+  reason_behind LongLine n reason later writes = lines_reason_behind LongLine n reason later writes
+  reason_behind NoMemory n (inl reason) later writes = inl (unmounted_behind mounts.NoMemory _ reason writes)
+  reason_behind NoMemory n (inr reason) later writes = inr (lines_reason_behind NoMemory n reason later writes)
 
   -- a run that has a reason to end, and then writes its last line
   pub ends_by : (end : End) (code : ℕ) → code ≡ code_of end → HasReason was mid [] end → was.write_faults ≤ mid.write_faults

@@ -1,7 +1,8 @@
 pub mod LineReading
-pub mod Recording
+pub mod Steps
 pub mod Turns
 pub mod Turning
+pub mod Starting
 pub mod LastLines
 pub mod Decoding
 pub mod Numbers

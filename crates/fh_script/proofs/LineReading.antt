@@ -1,9 +1,10 @@
 -- What a source has left, once a line of it was read.
-use Rattle.std.proofs.Common.{if◌then◌else◌, ◌≡◌, ℕ, ◌+◌, ◌<◌, ◌≤◌, Bool, true, false, not, ◌&&◌, List, [], ◌∷◌, ◌++◌, length, Option, Some, None, refl, sym, ◌∙◌, ap, arith, append_assoc, append-nil}
-use Rattle.std.proofs.lemmas.Bool.Decides.{nat_tests}
+use Rattle.std.proofs.Common.{if◌then◌else◌, ◌≡◌, ℕ, ◌+◌, ◌<◌, ◌≤◌, Bool, true, false, not, ◌&&◌, List, [], ◌∷◌, ◌++◌, length, Option, Some, None, refl, sym, ◌∙◌, ap, arith, append_assoc, append-nil, ◌-◌, take}
+use Rattle.std.proofs.lemmas.Bool.Decides.{nat_tests, Decides-eqb}
+use Rattle.std.proofs.lemmas.Slice.Eq.{ends_is}
 use Rattle.std.specs.List.{list_all}
 use Rattle.std.specs.Io.KnownBytes.{Consumes, IsAtEnd}
-use Rattle.fh_script.specs.Lines.{is_line_feed, before_lines, lines, line_length, ReadsLine, StartsLong}
+use Rattle.fh_script.specs.Lines.{is_line_feed, before_lines, lines, line_length, line_feeds, is_ended, ReadsLine, StartsLong}
 
 -- the bytes have no line feed
 abbrev pub is_plain : List ℕ → Bool
@@ -43,7 +44,7 @@ length-le-line_length [] rest plain = omega arith
 length-le-line_length (b ∷ line) rest plain =
     rw (first_plain b line plain) (omega (arith, length-le-line_length line rest (rest_plain b line plain)))
 
-consumes-append : (was mid now : Option (List ℕ)) (first second : List ℕ) → Consumes was mid first → Consumes mid now second → Consumes was now (first ++ second)
+pub consumes-append : (was mid now : Option (List ℕ)) (first second : List ℕ) → Consumes was mid first → Consumes mid now second → Consumes was now (first ++ second)
 consumes-append None mid now first second one two = tt
 consumes-append (Some a) None now first second one two = absurd one
 consumes-append (Some a) (Some b) None first second one two = absurd two
@@ -101,3 +102,27 @@ pub starts_longer : (was mid now : Option (List ℕ)) (line new : List ℕ) (b :
     → Consumes was mid line → Consumes mid now (b ∷ []) → 140000 < length new → StartsLong was
 starts_longer was mid now line new b plain other is one two long =
     starts_long was now (line ++ b ∷ []) (plain-push line b plain other) (consumes-append was mid now line (b ∷ []) one two) (rw is at long)
+
+-- Line feeds.
+
+pub line_feeds-append : (a b : List ℕ) → line_feeds (a ++ b) ≡ line_feeds a + line_feeds b
+line_feeds-append [] b = omega arith
+line_feeds-append (x ∷ a) b = by_cases (is_line_feed x) (line_feeds-append a b)
+  where
+    by_cases : (f : Bool) → line_feeds (a ++ b) ≡ line_feeds a + line_feeds b
+        → (if f then line_feeds (a ++ b) + 1 else line_feeds (a ++ b)) ≡ (if f then line_feeds a + 1 else line_feeds a) + line_feeds b
+    by_cases true behind = omega (arith, behind)
+    by_cases false behind = behind
+
+pub line_feeds-plain : (line : List ℕ) → is_plain line ≡ true → line_feeds line ≡ 0
+line_feeds-plain [] plain = refl
+line_feeds-plain (b ∷ line) plain = rw (first_plain b line plain) (line_feeds-plain line (rest_plain b line plain))
+
+-- such bytes don't end with one
+pub not_ended : (line : List ℕ) → is_plain line ≡ true → is_ended line ≡ true → ⊥
+not_ended line plain ended =
+    let split = (ends_is Decides-eqb line (10 ∷ []) (is_ended line) refl).0 ended in
+    omega (arith, line_feeds-plain line plain, ap line_feeds split, line_feeds-append (take (length line - 1) line) (10 ∷ []))
+
+pub line_feeds-ended : (line : List ℕ) → is_plain line ≡ true → line_feeds (line ++ 10 ∷ []) ≡ 1
+line_feeds-ended line plain = line_feeds-append line (10 ∷ []) ∙ ap (λ (n : ℕ). n + 1) (line_feeds-plain line plain)

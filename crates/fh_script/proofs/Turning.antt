@@ -1,28 +1,27 @@
 -- How one line goes on from the lines before it, and how a run ends behind them.
-use Rattle.std.proofs.Common.{◌≡◌, ℕ, ◌+◌, ◌<◌, ◌≤◌, Bool, true, false, ◌&&◌, List, [], ◌∷◌, ◌++◌, length, take, Option, Some, None, IfSome, refl, sym, ◌∙◌, ap, subst, arith, append_assoc, append-nil}
+use Rattle.std.proofs.Common.{◌≡◌, inl, inr, ℕ, ◌+◌, ◌<◌, ◌≤◌, Bool, true, false, ◌&&◌, List, [], ◌∷◌, ◌++◌, length, take, Option, Some, None, IfSome, refl, sym, ◌∙◌, ap, subst, arith, append_assoc, append-nil, length-append}
 use Rattle.std.specs.List.{list_all}
 use Rattle.std.proofs.lemmas.List.Folds.{list_all-append}
 use Rattle.std.proofs.lemmas.List.Sums.{fold-append}
 use Rattle.std.proofs.lemmas.Bool.{le-leb}
-use Rattle.std.specs.Io.KnownBytes.{Appends, IsAtEnd}
+use Rattle.std.specs.Io.KnownBytes.{Appends, Consumes, IsAtEnd}
 use Rattle.fh_base.specs.Faults.{Rose}
 use Rattle.fh_base.proofs.Appending.{appends-append}
-use Rattle.fh_journal.specs.Journal.{StandsFor}
-use Rattle.fh_script.specs.Lines.{is_line_feed, before_lines, lines, line_length, ReadsLine, StartsLong, HasLineReason}
-use Rattle.fh_script.specs.Answers.{printed}
-use Rattle.fh_script.specs.Machine.{World, answer_line, after_line, opening, run}
-use Rattle.fh_script.specs.Session.{Records, StopsFor}
-use Rattle.fh_script.specs.Script.{Outside, HasLines, is_short_line, Wrote, Answered, CutOff, IsLongNext, HasReason}
+use Rattle.fh_hub.specs.World.{World}
+use Rattle.fh_hub.specs.Hub.{StandsForHistory}
+use Rattle.fh_hub.specs.Replay.{Entry, IsLegal, replay}
+use Rattle.fh_script.specs.Lines.{is_line_feed, before_lines, lines, line_length, line_feeds, is_ended, ReadsLine, StartsLong, HasLineReason}
+use Rattle.fh_script.specs.Machine.{answer_line, after_line, opening_in, printed, run}
+use Rattle.fh_script.specs.Session.{HasStopCause, StandsEither}
+use Rattle.fh_script.specs.Script.{Outside, HasLines, is_short_line, joined, Wrote, Answered, AnsweredAll, AnsweredBefore, CutOff, IsLongNext, HasLinesReason}
 use Rattle.fh_script.specs.declared.ends.End.{End}
-use Rattle.fh_script.specs.declared.ends.End.TheVariants.{Finished, Usage, Damaged, ReadFault, DiskFault, WriteFault, LongLine, NoMemory}
-use Rattle.fh_script.proofs.Turns.{Reads, IsRunning}
+use Rattle.fh_script.specs.declared.ends.End.TheVariants.{Finished, Usage, BadHeader, BadFrame, ReadFault, DiskFault, WriteFault, LongLine, NoMemory}
+use Rattle.fh_script.proofs.LineReading.{consumes-append, line_feeds-append}
+use Rattle.fh_script.proofs.Turns.{Reads, IsDone}
 
 pub appends-nothing : (was : Option (List ℕ)) → Appends was was []
 appends-nothing None = tt
 appends-nothing (Some a) = sym (append-nil a)
-
-pub run-push : (done : List (List ℕ)) (line : List ℕ) → run (done ++ line ∷ []) ≡ after_line (run done) line
-run-push done line = fold-append after_line opening done (line ∷ [])
 
 both_true : (a b : Bool) → a ≡ true → b ≡ true → (a && b) ≡ true
 both_true true b first second = second
@@ -42,35 +41,94 @@ reads-push (Some a) (Some b) None done line one two = absurd two
 reads-push (Some a) (Some b) (Some d) done line one two =
     one ∙ ap (λ (l : List (List ℕ)). done ++ l) two ∙ sym (append_assoc done (line ∷ []) (lines d))
 
-pub begins : (left written told : Option (List ℕ)) (first : World) → first ≡ opening.world → StandsFor told [] first.gate
-    → IsRunning left left written written told first
-begins left written told first is stands = record {
+pub run-push : (opening : List Entry) (done : List (List ℕ)) (line : List ℕ) → run opening (done ++ line ∷ []) ≡ after_line (run opening done) line
+run-push opening done line = fold-append after_line (opening_in (replay opening)) done (line ∷ [])
+
+pub consumes-nothing : (l : Option (List ℕ)) → Consumes l l []
+consumes-nothing None = tt
+consumes-nothing (Some a) = refl
+
+joined-push : (done : List (List ℕ)) (line : List ℕ) → joined (done ++ line ∷ []) ≡ joined done ++ line
+joined-push [] line = append-nil line
+joined-push (first ∷ done) line = ap (λ (l : List ℕ). first ++ l) (joined-push done line) ∙ sym (append_assoc first (joined done) line)
+
+consumes-push : (was mid now : Option (List ℕ)) (done : List (List ℕ)) (line : List ℕ) → Consumes was mid (joined done) → Consumes mid now line
+    → Consumes was now (joined (done ++ line ∷ []))
+consumes-push was mid now done line one two =
+    subst (λ (l : List ℕ). Consumes was now l) (sym (joined-push done line)) (consumes-append was mid now (joined done) line one two)
+
+feeds-push : (done : List (List ℕ)) (line : List ℕ) → line_feeds (joined done) ≡ length done → line_feeds line ≡ 1
+    → line_feeds (joined (done ++ line ∷ [])) ≡ length (done ++ line ∷ [])
+feeds-push done line counted one =
+    omega (arith, ap line_feeds (joined-push done line), line_feeds-append (joined done) line, counted, one, length-append done (line ∷ []))
+
+feeds_part : (done : List (List ℕ)) (taken : List ℕ) → line_feeds (joined done) ≡ length done → line_feeds taken ≡ 0
+    → line_feeds (joined done ++ taken) ≡ length done
+feeds_part done taken counted none = omega (arith, line_feeds-append (joined done) taken, counted, none)
+
+pub begins : (opening : List Entry) (left written : Option (List ℕ)) (world : World) (now : ℕ) → world ≡ replay opening → now ≡ 0
+    → IsDone opening left left written written world now opening
+begins opening left written world now is at_once = record {
   done = [];
   read = nothing left;
+  consumed = consumes-nothing left;
   short = refl;
   texts = appends-nothing written;
-  stands = stands;
-  leaves = is;
+  world_is = is;
+  now_is = at_once;
+  grows = sym (append-nil opening);
+  feeds = refl;
 }
   where
     nothing : (l : Option (List ℕ)) → Reads l l []
     nothing None = tt
     nothing (Some a) = refl
 
-pub one_more : (was_left mid_left left was_written mid_written written mid_told told : Option (List ℕ)) (mid now : World) (line text : List ℕ)
-    → IsRunning was_left mid_left was_written mid_written mid_told mid → ReadsLine mid_left left line true → line_length line ≤ 140000
-    → Records mid now mid_told told (answer_line mid line) → text ≡ printed (answer_line mid line).answer → Appends mid_written written text
-    → IsRunning was_left left was_written written told now
-one_more was_left mid_left left was_written mid_written written mid_told told mid now line text running reads fits records is writes = record {
-  done = running.done ++ line ∷ [];
-  read = reads-push was_left mid_left left running.done line running.read reads;
-  short = short-push running.done line running.short fits;
-  texts =
-      rw (run-push running.done line, ← running.leaves, ← is)
-      (appends-append was_written mid_written written (run running.done).written text running.texts writes);
-  stands = rw (run-push running.done line, ← running.leaves) (records.stands (run running.done).entries running.stands);
-  leaves = rw (run-push running.done line, ← running.leaves) records.world;
-}
+-- what a line does behind the lines that are done
+pub record IsNextLine (world new : World) (now later : ℕ) (history longer : List Entry) (line text : List ℕ) : Type 0 where
+  pub text_is : text ≡ printed (answer_line world now line).text
+  pub world_is : new ≡ (answer_line world now line).world
+  pub now_is : later ≡ (answer_line world now line).now
+  pub grows : longer ≡ history ++ (answer_line world now line).entries
+
+module _ (opening : List Entry) (was_left mid_left left was_written mid_written written : Option (List ℕ)) (world new : World) (now later : ℕ)
+    (history longer : List Entry) (line text : List ℕ) where
+  next_world : (it : IsDone opening was_left mid_left was_written mid_written world now history) → IsNextLine world new now later history longer line text
+      → new ≡ (run opening (it.done ++ line ∷ [])).world
+  next_world it does = rw (run-push opening it.done line, ← it.world_is, ← it.now_is) does.world_is
+
+  next_now : (it : IsDone opening was_left mid_left was_written mid_written world now history) → IsNextLine world new now later history longer line text
+      → later ≡ (run opening (it.done ++ line ∷ [])).now
+  next_now it does = rw (run-push opening it.done line, ← it.world_is, ← it.now_is) does.now_is
+
+  pub next_history : (it : IsDone opening was_left mid_left was_written mid_written world now history) → IsNextLine world new now later history longer line text
+      → longer ≡ opening ++ (run opening (it.done ++ line ∷ [])).entries
+  next_history it does =
+      rw (run-push opening it.done line, ← it.world_is, ← it.now_is)
+      (does.grows ∙ ap (λ (h : List Entry). h ++ (answer_line world now line).entries) it.grows
+      ∙ append_assoc opening (run opening it.done).entries (answer_line world now line).entries)
+
+  next_texts : (it : IsDone opening was_left mid_left was_written mid_written world now history) → IsNextLine world new now later history longer line text
+      → Appends mid_written written text → Appends was_written written (run opening (it.done ++ line ∷ [])).written
+  next_texts it does writes =
+      rw (run-push opening it.done line, ← it.world_is, ← it.now_is, ← does.text_is)
+      (appends-append was_written mid_written written (run opening it.done).written text it.texts writes)
+
+  pub one_more : IsDone opening was_left mid_left was_written mid_written world now history → ReadsLine mid_left left line true
+      → Consumes mid_left left line → line_length line ≤ 140000 → line_feeds line ≡ 1
+      → IsNextLine world new now later history longer line text → Appends mid_written written text
+      → IsDone opening was_left left was_written written new later longer
+  one_more it reads consumes fits ended does writes = record {
+    done = it.done ++ line ∷ [];
+    read = reads-push was_left mid_left left it.done line it.read reads;
+    consumed = consumes-push was_left mid_left left it.done line it.consumed consumes;
+    short = short-push it.done line it.short fits;
+    texts = next_texts it does writes;
+    world_is = next_world it does;
+    now_is = next_now it does;
+    grows = next_history it does;
+    feeds = feeds-push it.done line it.feeds ended;
+  }
 
 -- the lines that a source has left, where it tells
 abbrev rest_of : Option (List ℕ) → List (List ℕ)
@@ -81,53 +139,6 @@ has_lines : (was left : Option (List ℕ)) (done : List (List ℕ)) → Reads wa
 has_lines None left done read = tt
 has_lines (Some a) None done read = absurd read
 has_lines (Some a) (Some b) done read = read
-
-wrote : (was now : Outside) (left mid_told : Option (List ℕ)) (world : World) (running : IsRunning was.left left was.written now.written mid_told world)
-    → Wrote was now running.done (rest_of left) []
-wrote was now left mid_told world running = record {
-  read = has_lines was.left left running.done running.read;
-  short = running.short;
-  texts = rw (append-nil (run running.done).written) running.texts;
-}
-
-answered : (was now : Outside) (left mid_told : Option (List ℕ)) (world : World) → IsRunning was.left left was.written now.written mid_told world
-    → now.told ≡ mid_told → IfSome was.told (λ file. length file ≤ 7) → Answered was now (rest_of left) []
-answered was now left mid_told world running same short = record {
-  done = running.done;
-  wrote = wrote was now left mid_told world running;
-  gate = world.gate;
-  stands = rw same running.stands;
-  opening = short;
-}
-
-pub finished : (was now : Outside) (left : Option (List ℕ)) (world : World) (line : List ℕ)
-    → IsRunning was.left left was.written now.written now.told world → ReadsLine left now.left line false → IfSome was.told (λ file. length file ≤ 7)
-    → HasReason was now [] Finished
-finished was now left world line running reads short = (
-  record {
-    done = running.done;
-    wrote = record {
-      read = at_end was.left left now.left running.done running.read reads;
-      short = running.short;
-      texts = rw (append-nil (run running.done).written) running.texts;
-    };
-    gate = world.gate;
-    stands = running.stands;
-    opening = short;
-  },
-  ended left now.left reads,
-)
-  where
-    at_end : (w m n : Option (List ℕ)) (done : List (List ℕ)) → Reads w m done → ReadsLine m n line false → HasLines w (done ++ [])
-    at_end None m n done one two = tt
-    at_end (Some a) None n done one two = absurd one
-    at_end (Some a) (Some b) None done one two = absurd two
-    at_end (Some a) (Some b) (Some d) done one two = one ∙ ap (λ (l : List ℕ). done ++ lines l) two.0
-
-    ended : (m n : Option (List ℕ)) → ReadsLine m n line false → IsAtEnd n
-    ended None n two = two
-    ended (Some b) None two = absurd two
-    ended (Some b) (Some d) two = two.1
 
 abbrev first_of : List (List ℕ) → List ℕ
 first_of [] = []
@@ -158,58 +169,6 @@ long_next (Some a) (Some b) done read long = from (lines b) (rw (line_length-fir
 rose_since : (first before now : ℕ) → first ≤ before → Rose before now → Rose first now
 rose_since first before now later rose = omega (arith, later, rose)
 
--- a run ends where no line was read
-pub line_stops : (was now : Outside) (left : Option (List ℕ)) (world : World) (before : ℕ) (end : End)
-    → IsRunning was.left left was.written now.written now.told world → HasLineReason left before now.read_faults end
-    → was.read_faults ≤ before → IfSome was.told (λ file. length file ≤ 7) → HasReason was now [] end
-line_stops was now left world before Finished running reason later short = absurd reason
-line_stops was now left world before Usage running reason later short = absurd reason
-line_stops was now left world before Damaged running reason later short = absurd reason
-line_stops was now left world before ReadFault running reason later short =
-    (rose_since _ _ _ later reason, (rest_of left, answered was now left now.told world running refl short))
-line_stops was now left world before DiskFault running reason later short = absurd reason
-line_stops was now left world before WriteFault running reason later short = absurd reason
-line_stops was now left world before LongLine running reason later short =
-    (rest_of left, (long_next was.left left running.done running.read reason, answered was now left now.told world running refl short))
-line_stops was now left world before NoMemory running reason later short =
-    (rest_of left, answered was now left now.told world running refl short)
-
--- a run ends where a line has no answer
-pub answer_stops : (was now : Outside) (left mid_told : Option (List ℕ)) (world : World) (before : ℕ) (end : End)
-    → IsRunning was.left left was.written now.written mid_told world → StopsFor mid_told now.told before now.disk_faults end
-    → was.disk_faults ≤ before → IfSome was.told (λ file. length file ≤ 7) → HasReason was now [] end
-answer_stops was now left mid_told world before Finished running reason later short = absurd reason
-answer_stops was now left mid_told world before Usage running reason later short = absurd reason
-answer_stops was now left mid_told world before Damaged running reason later short = absurd reason
-answer_stops was now left mid_told world before ReadFault running reason later short = absurd reason
-answer_stops was now left mid_told world before DiskFault running reason later short =
-    (rose_since _ _ _ later reason, (running.done, (rest_of left, wrote was now left mid_told world running)))
-answer_stops was now left mid_told world before WriteFault running reason later short = absurd reason
-answer_stops was now left mid_told world before LongLine running reason later short = absurd reason
-answer_stops was now left mid_told world before NoMemory running reason later short =
-    (rest_of left, answered was now left mid_told world running reason short)
-
--- a run ends before its first line
-pub mount_stops : (was now : Outside) → now.written ≡ was.written → Rose was.disk_faults now.disk_faults → HasReason was now [] DiskFault
-mount_stops was now same rose = (
-  rose,
-  (
-    [],
-    (
-      rest_of was.left,
-      record {
-        read = has_lines was.left was.left [] (nothing was.left);
-        short = refl;
-        texts = rw same (appends-nothing was.written);
-      },
-    ),
-  ),
-)
-  where
-    nothing : (l : Option (List ℕ)) → Reads l l []
-    nothing None = tt
-    nothing (Some a) = refl
-
 has_next : (was left now : Option (List ℕ)) (done : List (List ℕ)) (line : List ℕ) → Reads was left done → ReadsLine left now line true
     → HasLines was (done ++ line ∷ rest_of now)
 has_next None left now done line one two = tt
@@ -217,89 +176,182 @@ has_next (Some a) None now done line one two = absurd one
 has_next (Some a) (Some b) None done line one two = absurd two
 has_next (Some a) (Some b) (Some d) done line one two = one ∙ ap (λ (l : List (List ℕ)). done ++ l) two
 
+rest_of_end : (left : Option (List ℕ)) → IsAtEnd left → rest_of left ≡ []
+rest_of_end None end = refl
+rest_of_end (Some bytes) end = ap lines end
+
+none_left : (left now : Option (List ℕ)) (line : List ℕ) → ReadsLine left now line false → rest_of left ≡ []
+none_left None now line reads = refl
+none_left (Some a) None line reads = absurd reads
+none_left (Some a) (Some b) line reads = ap lines reads.0
+
+at_end : (left now : Option (List ℕ)) (line : List ℕ) → ReadsLine left now line false → IsAtEnd now
+at_end None now line reads = reads
+at_end (Some a) None line reads = absurd reads
+at_end (Some a) (Some b) line reads = reads.1
+
+module _ (was now : Outside) (opening : List Entry) (legal : IsLegal opening) (stood : IfSome was.told (StandsForHistory opening))
+    (left : Option (List ℕ)) (world : World) (moment : ℕ) (history : List Entry) where
+  wrote : (it : IsDone opening was.left left was.written now.written world moment history) (taken : List ℕ) → Consumes left now.left taken
+      → length taken ≤ 140001 → Wrote was now opening it.done (rest_of left) []
+  wrote it taken consumes few = record {
+    legal = legal;
+    stood = stood;
+    read = has_lines was.left left it.done it.read;
+    short = it.short;
+    taken = taken;
+    consumed = consumes-append was.left left now.left (joined it.done) taken it.consumed consumes;
+    few = few;
+    texts = rw (append-nil (run opening it.done).written) it.texts;
+  }
+
+  answered : (it : IsDone opening was.left left was.written now.written world moment history) (taken : List ℕ) → Consumes left now.left taken
+      → length taken ≤ 140001 → IfSome now.told (StandsForHistory history) → Answered was now (rest_of left) []
+  answered it taken consumes few stands = record {
+    opening = opening;
+    done = it.done;
+    wrote = wrote it taken consumes few;
+    stands = subst (λ (h : List Entry). IfSome now.told (StandsForHistory h)) it.grows stands;
+  }
+
+  -- a run ends where no line was left
+  pub finished : (line : List ℕ) → IsDone opening was.left left was.written now.written world moment history → ReadsLine left now.left line false
+      → Consumes left now.left line → length line ≤ 140001 → IfSome now.told (StandsForHistory history) → HasLinesReason was now [] Finished
+  finished line it reads consumes few stands = (
+    subst (λ (more : List (List ℕ)). Answered was now more []) (none_left left now.left line reads) (answered it line consumes few stands),
+    at_end left now.left line reads,
+  )
+
+  -- a run ends where no line was read
+  pub line_stops : (before : ℕ) (end : End) → IsDone opening was.left left was.written now.written world moment history
+      → HasLineReason left now.left before now.read_faults end → was.read_faults ≤ before → IfSome now.told (StandsForHistory history)
+      → HasLinesReason was now [] end
+  unfolding answered wrote
+  line_stops before Finished it reason later stands = absurd reason
+  line_stops before Usage it reason later stands = absurd reason
+  line_stops before BadHeader it reason later stands = absurd reason
+  line_stops before (BadFrame at rule) it reason later stands = absurd reason
+  line_stops before ReadFault it reason later stands = (
+    rose_since _ _ _ later reason.0,
+    record {
+      more = rest_of left;
+      answered = answered it reason.1.taken reason.1.consumed reason.1.few stands;
+      feeds = feeds_part it.done reason.1.taken it.feeds reason.1.part;
+    },
+  )
+  line_stops before DiskFault it reason later stands = absurd reason
+  line_stops before WriteFault it reason later stands = absurd reason
+  line_stops before LongLine it reason later stands = (
+    rest_of left,
+    (long_next was.left left it.done it.read reason.0, answered it reason.1.taken reason.1.consumed reason.1.few stands),
+  )
+  line_stops before NoMemory it reason later stands =
+      inl (rest_of left, answered it reason.taken reason.consumed reason.few stands)
+
+  -- lines behind which one more was read
+  before_line : (it : IsDone opening was.left left was.written now.written world moment history) (line : List ℕ) → ReadsLine left now.left line true
+      → Consumes left now.left line → length line ≤ 140001 → IfSome now.told (StandsEither history (answer_line world moment line).entries)
+      → AnsweredBefore was now []
+  before_line it line reads consumes few stands = record {
+    opening = opening;
+    done = it.done;
+    line = line;
+    more = rest_of now.left;
+    wrote = record {
+      legal = legal;
+      stood = stood;
+      read = has_next was.left left now.left it.done line it.read reads;
+      short = it.short;
+      taken = line;
+      consumed = consumes-append was.left left now.left (joined it.done) line it.consumed consumes;
+      few = few;
+      texts = rw (append-nil (run opening it.done).written) it.texts;
+    };
+    stands =
+        rw (← it.world_is, ← it.now_is)
+        (subst (λ (h : List Entry). IfSome now.told (StandsEither h (answer_line world moment line).entries)) it.grows stands);
+  }
+
+  -- a run ends where a line has no answer
+  pub answer_stops : (before : ℕ) (end : End) (line : List ℕ) → IsDone opening was.left left was.written now.written world moment history
+      → HasStopCause before now.disk_faults end → was.disk_faults ≤ before → ReadsLine left now.left line true → Consumes left now.left line
+      → length line ≤ 140001 → IfSome now.told (StandsEither history (answer_line world moment line).entries) → HasLinesReason was now [] end
+  answer_stops before Finished line it reason later reads consumes few stands = absurd reason
+  answer_stops before Usage line it reason later reads consumes few stands = absurd reason
+  answer_stops before BadHeader line it reason later reads consumes few stands = absurd reason
+  answer_stops before (BadFrame at rule) line it reason later reads consumes few stands = absurd reason
+  answer_stops before ReadFault line it reason later reads consumes few stands = absurd reason
+  answer_stops before DiskFault line it reason later reads consumes few stands =
+      (rose_since _ _ _ later reason, before_line it line reads consumes few stands)
+  answer_stops before WriteFault line it reason later reads consumes few stands = absurd reason
+  answer_stops before LongLine line it reason later reads consumes few stands = absurd reason
+  answer_stops before NoMemory line it reason later reads consumes few stands = inr (before_line it line reads consumes few stands)
+
 -- a run ends where an answer is written in part
-pub write_stops : (was now : Outside) (left mid_written mid_told : Option (List ℕ)) (world world' : World) (line text : List ℕ) (written before : ℕ)
-    → IsRunning was.left left was.written mid_written mid_told world → ReadsLine left now.left line true
-    → Records world world' mid_told now.told (answer_line world line) → text ≡ printed (answer_line world line).answer
-    → written < length text → Appends mid_written now.written (take written text) → was.write_faults ≤ before → Rose before now.write_faults
-    → IfSome was.told (λ file. length file ≤ 7) → HasReason was now [] WriteFault
-write_stops was now left mid_written mid_told world world' line text written before running reads records is part writes later rose short = (
-  rose_since _ _ _ later rose,
+pub write_stops : (was now : Outside) (opening : List Entry) → IsLegal opening → IfSome was.told (StandsForHistory opening)
+    → (left mid_written : Option (List ℕ)) (world new : World) (moment later : ℕ) (history longer : List Entry) (line text : List ℕ) (written before : ℕ)
+    → IsDone opening was.left left was.written mid_written world moment history → ReadsLine left now.left line true → Consumes left now.left line
+    → length line ≤ 140001 → IsNextLine world new moment later history longer line text → written < length text
+    → Appends mid_written now.written (take written text) → was.write_faults ≤ before → Rose before now.write_faults
+    → IfSome now.told (StandsForHistory longer) → HasLinesReason was now [] WriteFault
+write_stops was now opening legal stood left mid_written world new moment later history longer line text written before it reads consumes few does part writes faults rose stands = (
+  rose_since _ _ _ faults rose,
   record {
-    done = running.done;
+    opening = opening;
+    done = it.done;
     line = line;
     more = rest_of now.left;
     written = written;
-    part = rw (← running.leaves, ← is) part;
+    part = rw (← it.world_is, ← it.now_is, ← does.text_is) part;
     wrote = record {
-      read = has_next was.left left now.left running.done line running.read reads;
-      short = running.short;
+      legal = legal;
+      stood = stood;
+      read = has_next was.left left now.left it.done line it.read reads;
+      short = it.short;
+      taken = line;
+      consumed = consumes-append was.left left now.left (joined it.done) line it.consumed consumes;
+      few = few;
       texts =
-          rw (← running.leaves, ← is)
-          (appends-append was.written mid_written now.written (run running.done).written (take written text) running.texts writes);
+          rw (← it.world_is, ← it.now_is, ← does.text_is)
+          (appends-append was.written mid_written now.written (run opening it.done).written (take written text) it.texts writes);
     };
-    gate = world'.gate;
-    stands = rw (run-push running.done line, ← running.leaves) (records.stands (run running.done).entries running.stands);
-    opening = short;
+    stands =
+        subst (λ (h : List Entry). IfSome now.told (StandsForHistory h))
+        (next_history opening was.left left now.left was.written mid_written now.written world new moment later history longer line text it does) stands;
   },
 )
 
-from_wrote : (was mid now : Outside) (done more : List (List ℕ)) (behind : List ℕ) → mid.left ≡ was.left → mid.written ≡ was.written
-    → Wrote mid now done more behind → Wrote was now done more behind
-from_wrote was mid now done more behind left written it = record {
-  read = subst (λ (l : Option (List ℕ)). HasLines l (done ++ more)) left it.read;
-  short = it.short;
-  texts = subst (λ (w : Option (List ℕ)). Appends w now.written ((run done).written ++ behind)) written it.texts;
-}
-
-from_answered : (was mid now : Outside) (more : List (List ℕ)) → mid.left ≡ was.left → mid.written ≡ was.written
-    → IfSome was.told (λ file. length file ≤ 7) → Answered mid now more [] → Answered was now more []
-from_answered was mid now more left written short it = record {
-  done = it.done;
-  wrote = from_wrote was mid now it.done more [] left written it.wrote;
-  gate = it.gate;
-  stands = it.stands;
-  opening = short;
-}
-
-from_cut_off : (was mid now : Outside) → mid.left ≡ was.left → mid.written ≡ was.written
-    → IfSome was.told (λ file. length file ≤ 7) → CutOff mid now → CutOff was now
-from_cut_off was mid now left written short it = record {
-  done = it.done;
-  line = it.line;
-  more = it.more;
-  written = it.written;
-  part = it.part;
-  wrote = from_wrote was mid now it.done (it.line ∷ it.more) _ left written it.wrote;
-  gate = it.gate;
-  stands = it.stands;
-  opening = short;
-}
-
--- the same reason of a run that began with mounting
-pub from_start : (was mid now : Outside) (end : End) → mid.left ≡ was.left → mid.written ≡ was.written → mid.read_faults ≡ was.read_faults
-    → mid.write_faults ≡ was.write_faults → was.disk_faults ≤ mid.disk_faults → IfSome was.told (λ file. length file ≤ 7)
-    → (end ≡ Usage → ⊥) → (end ≡ Damaged → ⊥) → HasReason mid now [] end → HasReason was now [] end
-from_start was mid now Finished left written reads writes disk short asked whole reason = (from_answered was mid now [] left written short reason.0, reason.1)
-from_start was mid now Usage left written reads writes disk short asked whole reason = absurd (asked refl)
-from_start was mid now Damaged left written reads writes disk short asked whole reason = absurd (whole refl)
-from_start was mid now ReadFault left written reads writes disk short asked whole reason =
-    (subst (λ (n : ℕ). Rose n now.read_faults) reads reason.0, (reason.1.0, from_answered was mid now reason.1.0 left written short reason.1.1))
-from_start was mid now DiskFault left written reads writes disk short asked whole reason =
-    (rose_since _ _ _ disk reason.0, (reason.1.0, (reason.1.1.0, from_wrote was mid now reason.1.0 reason.1.1.0 [] left written reason.1.1.1)))
-from_start was mid now WriteFault left written reads writes disk short asked whole reason =
-    (subst (λ (n : ℕ). Rose n now.write_faults) writes reason.0, from_cut_off was mid now left written short reason.1)
-from_start was mid now LongLine left written reads writes disk short asked whole reason =
-    (reason.0, (subst (λ (l : Option (List ℕ)). IsLongNext l reason.0) left reason.1.0, from_answered was mid now reason.0 left written short reason.1.1))
-from_start was mid now NoMemory left written reads writes disk short asked whole reason =
-    (reason.0, from_answered was mid now reason.0 left written short reason.1)
-
--- the same reason, told by an equal disk
-pub from_disk : {D : Type 0} (told : D → Option (List ℕ)) (faults : D → ℕ) (now known : D) → now ≡ known
-    → (was : Outside) (left written : Option (List ℕ)) (reads writes : ℕ) (end : End)
-    → HasReason was (record { left = left; read_faults = reads; written = written; write_faults = writes; told = told known; disk_faults = faults known }) [] end
-    → HasReason was (record { left = left; read_faults = reads; written = written; write_faults = writes; told = told now; disk_faults = faults now }) [] end
-from_disk {D} told faults now known same was left written reads writes end reason =
-    subst
-    (λ (d : D). HasReason was (record { left = left; read_faults = reads; written = written; write_faults = writes; told = told d; disk_faults = faults d }) [] end)
-    (sym same) reason
+-- a run ends behind a line without a line feed, since nothing is left
+pub ends_behind : (was now : Outside) (opening : List Entry) → IsLegal opening → IfSome was.told (StandsForHistory opening)
+    → (left mid_written : Option (List ℕ)) (world new : World) (moment later : ℕ) (history longer : List Entry) (line text : List ℕ)
+    → IsDone opening was.left left was.written mid_written world moment history → ReadsLine left now.left line true → Consumes left now.left line
+    → line_length line ≤ 140000 → IsNextLine world new moment later history longer line text → Appends mid_written now.written text
+    → IsAtEnd now.left → IfSome now.told (StandsForHistory longer) → HasLinesReason was now [] Finished
+ends_behind was now opening legal stood left mid_written world new moment later history longer line text it reads consumes fits does writes end stands =
+    let done : List (List ℕ) = it.done ++ line ∷ [] in
+    (
+      record {
+        opening = opening;
+        done = done;
+        wrote = record {
+          legal = legal;
+          stood = stood;
+          read =
+              subst (λ (l : List (List ℕ)). HasLines was.left (done ++ l)) (rest_of_end now.left end)
+              (has_lines was.left now.left done (reads-push was.left left now.left it.done line it.read reads));
+          short = short-push it.done line it.short fits;
+          taken = [];
+          consumed =
+              consumes-append was.left now.left now.left (joined done) []
+              (consumes-push was.left left now.left it.done line it.consumed consumes) (consumes-nothing now.left);
+          few = omega arith;
+          texts =
+              rw (append-nil (run opening done).written)
+              (next_texts opening was.left left now.left was.written mid_written now.written world new moment later history longer line text it does writes);
+        };
+        stands =
+            subst (λ (h : List Entry). IfSome now.told (StandsForHistory h))
+            (next_history opening was.left left now.left was.written mid_written now.written world new moment later history longer line text it does) stands;
+      },
+      end,
+    )

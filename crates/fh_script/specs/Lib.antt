@@ -1,11 +1,9 @@
-pub mod Answers
 pub mod Concluding
 pub mod Ends
 pub mod Forms
 pub mod Grammar
 pub mod Lines
 pub mod Machine
-pub mod Queues
 pub mod Reading
 pub mod Script
 pub mod Session

@@ -1,117 +1,90 @@
--- What each line comes to: its answer, its entry or none, and the world after it.
-use Rattle.std.specs.Prelude.{ℕ, ◌+◌, nat_le, nat_lt, Bool, List, [], ◌∷◌, ◌++◌, length, replicate, codes, Option, Some, None, if◌then◌else◌, fold}
-use Rattle.std.specs.List.{list_any}
-use Rattle.std.specs.Str.{bytes_eq, is_utf8}
-use Rattle.std.specs.Int.{w32, to_be_bytes}
-use Rattle.fh_base.specs.Names.{is_queue_name}
-use Rattle.fh_script.specs.declared.answers.Answer.{Answer}
-use Rattle.fh_script.specs.declared.answers.Answer.TheVariants.{Made, There, Stored, BadName, TooLarge, QueueNotFound, StoreFull, JournalFull, BadText, BadWord, BadCount, BadNumber}
-use Rattle.fh_script.specs.Answers.{printed}
-use Rattle.fh_script.specs.Lines.{line_text}
-use Rattle.fh_script.specs.Words.{words, is_text_word}
+-- What each line comes to: its answer, its entries, and the world and the moment behind it.
+use Rattle.std.specs.Prelude.{ℕ, nat_le, List, [], ◌∷◌, ◌++◌, codes, Option, Some, None, Result, Ok, Err, if◌then◌else◌, fold}
+use Rattle.fh_base.specs.Moments.{greatest_moment}
+use Rattle.fh_base.specs.declared.rule.Rule.{Rule}
+use Rattle.fh_base.specs.declared.rule.Rule.TheVariants.{MomentTooLate}
+use Rattle.fh_event.specs.declared.command.Command.{Command as HubCommand}
+use Rattle.fh_event.specs.declared.reply.Reply.{Reply}
+use Rattle.fh_event.specs.Lines.{reply_line, rule_line, spaced}
+use Rattle.fh_hub.specs.World.{World, step}
+use Rattle.fh_hub.specs.Hub.{answer}
+use Rattle.fh_hub.specs.Replay.{Entry, noted, replay, world_after}
+use Rattle.fh_script.specs.declared.faults.LineFault.{LineFault}
+use Rattle.fh_script.specs.declared.faults.LineFault.TheVariants.{BadText, BadWord, BadCount, BadNumber}
+use Rattle.fh_script.specs.declared.grammar.Line.{Line}
+use Rattle.fh_script.specs.declared.grammar.Line.TheVariants.{Blank, At, Command}
+use Rattle.fh_script.specs.Grammar.{line_of}
 
--- the names of the queues, how many messages were put, and the place of the journal's next gate
-pub record World : Type 0 where
-  pub queues : List (List ℕ)
-  pub messages : ℕ
-  pub gate : ℕ
-
-abbrev pub world : List (List ℕ) → ℕ → ℕ → World
-world queues messages gate = record { queues = queues; messages = messages; gate = gate }
-
+-- the text of the answer, or none; the entries; the world; and the moment that later lines hand in
 pub record Done : Type 0 where
-  pub answer : Option Answer
-  pub entries : List (List ℕ)
+  pub text : Option (List ℕ)
+  pub entries : List Entry
   pub world : World
+  pub now : ℕ
 
--- nothing is recorded
-abbrev pub says : World → Answer → Done
-says world answer = record { answer = Some answer; entries = []; world = world }
+-- the answer alone
+abbrev pub says : World → ℕ → List ℕ → Done
+says w now text = record { text = Some text; entries = []; world = w; now = now }
 
--- the entry is recorded, where the journal has room for it
-abbrev pub records : World → Answer → List ℕ → World → Done
-records world answer entry next =
-    if nat_lt 1073741824 (world.gate + 6 + length entry) then says world (JournalFull world.gate)
-    else record { answer = Some answer; entries = entry ∷ []; world = record next { gate = world.gate + 5 + length entry } }
+abbrev pub fault_text : LineFault → List ℕ
+fault_text BadText = codes "bad text"
+fault_text BadWord = codes "bad word"
+fault_text BadCount = codes "bad count"
+fault_text BadNumber = codes "bad number"
 
--- a text: its length in four bytes, and its bytes
-abbrev pub text_field : List ℕ → List ℕ
-text_field text = to_be_bytes w32 (length text) ++ text
+abbrev pub text_of_answer : Result Reply Rule → List ℕ
+text_of_answer (Ok reply) = reply_line reply
+text_of_answer (Err rule) = rule_line rule
 
--- the moment 0, the kind of command, and its fields
-unfoldable pub queue_entry : List ℕ → List ℕ
-queue_entry queue = replicate 8 0 ++ (1 ∷ []) ++ text_field queue
+-- `at`, where the moment isn't too late
+abbrev pub at_text : ℕ → List ℕ
+at_text ms = if nat_le ms greatest_moment then codes "at" ++ spaced ms else rule_line MomentTooLate
 
--- the same of a put without delay, and without an expiry
-unfoldable pub put_entry : List ℕ → List ℕ → List ℕ
-put_entry queue text = replicate 8 0 ++ (2 ∷ []) ++ text_field queue ++ replicate 9 0 ++ text_field text
+abbrev pub moment_after : ℕ → ℕ → ℕ
+moment_after now ms = if nat_le ms greatest_moment then ms else now
 
-abbrev pub has_queue : List ℕ → List (List ℕ) → Bool
-has_queue queue queues = list_any (λ name. bytes_eq name queue) queues
+-- a command: one step of the machine
+abbrev pub make_step : World → ℕ → HubCommand → Done
+make_step w now command = record {
+  text = Some (text_of_answer (answer (step w command now)));
+  entries = noted w command now;
+  world = world_after w (step w command now);
+  now = now;
+}
 
-abbrev pub make_queue : World → List ℕ → Done
-make_queue world queue =
-    if is_queue_name queue then
-    if has_queue queue world.queues then says world There
-    else records world Made (queue_entry queue) (record world { queues = world.queues ++ queue ∷ [] })
-    else says world BadName
+-- what a line that was read comes to
+abbrev pub answer_read : World → ℕ → Result Line LineFault → Done
+answer_read w now (Err fault) = says w now (fault_text fault)
+answer_read w now (Ok Blank) = record { text = None; entries = []; world = w; now = now }
+answer_read w now (Ok (At ms)) = record { text = Some (at_text ms); entries = []; world = w; now = moment_after now ms }
+answer_read w now (Ok (Command command)) = make_step w now command
 
-abbrev pub put : World → List ℕ → List ℕ → Done
-put world queue text =
-    if is_queue_name queue then
-    if nat_lt 65536 (length text) then says world (TooLarge (length text))
-    else if has_queue queue world.queues then
-    if nat_le 100000 world.messages then says world (StoreFull world.messages)
-    else records world (Stored (world.messages + 1)) (put_entry queue text) (record world { messages = world.messages + 1 })
-    else says world QueueNotFound
-    else says world BadName
+unfoldable pub answer_line : World → ℕ → List ℕ → Done
+answer_line w now line = answer_read w now (line_of line)
 
--- `queue <name>`
-abbrev pub queue_word : World → List ℕ → Done
-queue_word world queue = if is_text_word queue then make_queue world queue else says world BadText
-
-abbrev pub queue_line : World → List (List ℕ) → Done
-queue_line world (queue ∷ []) = queue_word world queue
-queue_line world _ = says world BadCount
-
--- `put <queue> 0 -1 <text>`
-abbrev pub put_words : World → List ℕ → List ℕ → List ℕ → List ℕ → Done
-put_words world queue delay ttl text =
-    if is_text_word queue then
-    if bytes_eq delay (codes "0") then
-    if bytes_eq ttl (codes "-1") then
-    if is_text_word text then put world queue text else says world BadText
-    else says world BadNumber
-    else says world BadNumber
-    else says world BadText
-
-abbrev pub put_line : World → List (List ℕ) → Done
-put_line world (queue ∷ delay ∷ ttl ∷ text ∷ []) = put_words world queue delay ttl text
-put_line world _ = says world BadCount
-
-abbrev pub words_line : World → List (List ℕ) → Done
-words_line world [] = record { answer = None; entries = []; world = world }
-words_line world (verb ∷ more) =
-    if bytes_eq verb (codes "queue") then queue_line world more
-    else if bytes_eq verb (codes "put") then put_line world more
-    else says world BadWord
-
-unfoldable pub answer_line : World → List ℕ → Done
-answer_line world line = if is_utf8 (line_text line) then words_line world (words (line_text line)) else says world BadText
+-- an answer is a line of its own; a line of no words has none
+abbrev pub printed : Option (List ℕ) → List ℕ
+printed None = []
+printed (Some text) = text ++ 10 ∷ []
 
 -- what lines in order come to
 pub record State : Type 0 where
   pub world : World
-  pub entries : List (List ℕ)
+  pub now : ℕ
+  pub entries : List Entry
   pub written : List ℕ
 
-abbrev pub opening : State
-opening = record { world = record { queues = []; messages = 0; gate = 6 }; entries = []; written = [] }
+abbrev pub opening_in : World → State
+opening_in w = record { world = w; now = 0; entries = []; written = [] }
 
 abbrev pub after_line : State → List ℕ → State
-after_line state line =
-    let done = answer_line state.world line in
-    record { world = done.world; entries = state.entries ++ done.entries; written = state.written ++ printed done.answer }
+after_line s line =
+    let done = answer_line s.world s.now line in
+    record { world = done.world; now = done.now; entries = s.entries ++ done.entries; written = s.written ++ printed done.text }
 
-abbrev pub run : List (List ℕ) → State
-run lines = fold after_line opening lines
+abbrev pub run_from : World → List (List ℕ) → State
+run_from w lines = fold after_line (opening_in w) lines
+
+-- the same in the world of a history
+abbrev pub run : List Entry → List (List ℕ) → State
+run opening lines = run_from (replay opening) lines

@@ -1,18 +1,22 @@
 -- What a whole run of the script comes to.
-use Rattle.std.specs.Prelude.{◌≡◌, ◌≤◌, ◌<◌, ⊤, ℕ, nat_le, Bool, true, false, List, [], ◌∷◌, ◌++◌, length, take, codes, Option, Some, None, IfSome, string_bytes}
-use Rattle.std.specs.List.{list_all}
+use Rattle.std.specs.Prelude.{◌≡◌, ◌⊎◌, ◌≤◌, ◌<◌, ⊤, ℕ, nat_le, Bool, true, false, List, [], ◌∷◌, ◌++◌, length, take, codes, Option, Some, None, IfSome, string_bytes}
+use Rattle.std.specs.List.{flat_map, list_all}
 use Rattle.std.specs.Str.{bytes_eq}
-use Rattle.std.specs.Io.KnownBytes.{Appends, IsAtEnd}
+use Rattle.std.specs.Io.KnownBytes.{Appends, Consumes, IsAtEnd}
 use Rattle.std.specs.declared.string.String.{String}
 use Rattle.std.specs.declared.alloc.Global.{Global}
 use Rattle.fh_base.specs.Faults.{Rose}
-use Rattle.fh_journal.specs.Journal.{StandsFor}
-use Rattle.fh_script.specs.Lines.{lines, line_length}
-use Rattle.fh_script.specs.Answers.{printed}
-use Rattle.fh_script.specs.Machine.{answer_line, run}
+use Rattle.fh_hub.specs.Hub.{StandsForHistory}
+use Rattle.fh_hub.specs.Mounting.{MountsHistory}
+use Rattle.fh_hub.specs.Replay.{Entry, IsLegal}
+use Rattle.fh_hub.specs.declared.faults.HubFault.{HubFault}
+use Rattle.fh_hub.specs.declared.faults.HubFault.TheVariants as mounts
+use Rattle.fh_script.specs.Lines.{lines, line_length, line_feeds}
+use Rattle.fh_script.specs.Machine.{answer_line, printed, run}
+use Rattle.fh_script.specs.Session.{StandsEither}
 use Rattle.fh_script.specs.Ends.{code_of, last_line}
 use Rattle.fh_script.specs.declared.ends.End.{End}
-use Rattle.fh_script.specs.declared.ends.End.TheVariants.{Finished, Usage, Damaged, ReadFault, DiskFault, WriteFault, LongLine, NoMemory}
+use Rattle.fh_script.specs.declared.ends.End.TheVariants.{Finished, Usage, BadHeader, BadFrame, ReadFault, DiskFault, WriteFault, LongLine, NoMemory}
 
 -- `script <journal> <checkpoint>`
 abbrev pub is_script : List (String Global) → Bool
@@ -36,31 +40,63 @@ HasLines (Some bytes) all = lines bytes ≡ all
 abbrev pub is_short_line : List ℕ → Bool
 is_short_line line = nat_le (line_length line) 140000
 
--- These lines were read and none is too long; the ones behind them are left; their answers were written, and then more.
-pub record Wrote (was now : Outside) (done more : List (List ℕ)) (behind : List ℕ) : Type 0 where
+-- the bytes of these lines
+abbrev pub joined : List (List ℕ) → List ℕ
+joined lines = flat_map (λ line. line) lines
+
+-- The journal stood for this history, which is legal. These lines were read and none is too long, and at most 140,001
+-- bytes behind them were; the other lines are left. Their answers were written, and then more.
+pub record Wrote (was now : Outside) (opening : List Entry) (done more : List (List ℕ)) (behind : List ℕ) : Type 0 where
+  pub legal : IsLegal opening
+  pub stood : IfSome was.told (StandsForHistory opening)
   pub read : HasLines was.left (done ++ more)
   pub short : list_all is_short_line done ≡ true
-  pub texts : Appends was.written now.written ((run done).written ++ behind)
+  pub taken : List ℕ
+  pub consumed : Consumes was.left now.left (joined done ++ taken)
+  pub few : length taken ≤ 140001
+  pub texts : Appends was.written now.written ((run opening done).written ++ behind)
 
--- the same, and the journal, which was a file of at most 7 bytes, stands for their entries
+-- the same, and the journal stands for that history with the lines' entries behind it
 pub record Answered (was now : Outside) (more : List (List ℕ)) (behind : List ℕ) : Type 0 where
+  pub opening : List Entry
   pub done : List (List ℕ)
-  pub wrote : Wrote was now done more behind
-  pub gate : ℕ
-  pub stands : StandsFor now.told (run done).entries gate
-  pub opening : IfSome was.told (λ file. length file ≤ 7)
+  pub wrote : Wrote was now opening done more behind
+  pub stands : IfSome now.told (StandsForHistory (opening ++ (run opening done).entries))
 
--- The same of lines whose next answer was written in part alone, though its entry is in the journal.
+-- The same of as many lines as the source gave line feeds.
+pub record AnsweredAll (was now : Outside) (behind : List ℕ) : Type 0 where
+  pub more : List (List ℕ)
+  pub answered : Answered was now more behind
+  pub feeds : line_feeds (joined answered.done ++ answered.wrote.taken) ≡ length answered.done
+
+-- The same of lines behind which one more was read: its entries may stand in the journal too.
+pub record AnsweredBefore (was now : Outside) (behind : List ℕ) : Type 0 where
+  pub opening : List Entry
+  pub done : List (List ℕ)
+  pub line : List ℕ
+  pub more : List (List ℕ)
+  pub wrote : Wrote was now opening done (line ∷ more) behind
+  pub stands :
+    let s = run opening done in
+    IfSome now.told (StandsEither (opening ++ s.entries) (answer_line s.world s.now line).entries)
+
+-- The same of lines whose next answer was written in part alone, though its entries are in the journal.
 pub record CutOff (was now : Outside) : Type 0 where
+  pub opening : List Entry
   pub done : List (List ℕ)
   pub line : List ℕ
   pub more : List (List ℕ)
   pub written : ℕ
-  pub part : written < length (printed (answer_line (run done).world line).answer)
-  pub wrote : Wrote was now done (line ∷ more) (take written (printed (answer_line (run done).world line).answer))
-  pub gate : ℕ
-  pub stands : StandsFor now.told (run (done ++ line ∷ [])).entries gate
-  pub opening : IfSome was.told (λ file. length file ≤ 7)
+  pub part : written < length (printed (answer_line (run opening done).world (run opening done).now line).text)
+  pub wrote : Wrote was now opening done (line ∷ more)
+    (take written (printed (answer_line (run opening done).world (run opening done).now line).text))
+  pub stands : IfSome now.told (StandsForHistory (opening ++ (run opening (done ++ line ∷ [])).entries))
+
+-- the journal isn't mounted: nothing was taken from the source, and the bytes are what this fault leaves
+pub record Unmounted (was now : Outside) (fault : HubFault) (behind : List ℕ) : Type 0 where
+  pub left : now.left ≡ was.left
+  pub bytes : MountsHistory was.told now.told (Some fault)
+  pub texts : Appends was.written now.written behind
 
 -- where a source tells, the next line is too long
 abbrev pub IsLongNext : Option (List ℕ) → List (List ℕ) → Type 0
@@ -68,18 +104,42 @@ IsLongNext None more = ⊤
 IsLongNext (Some bytes) [] = ⊥
 IsLongNext (Some bytes) (line ∷ more) = 140000 < line_length line
 
--- why a run ends, and what it leaves, with this text behind the answers
+-- why a run ends whose journal was mounted, and what it leaves, with this text behind the answers
+abbrev pub HasLinesReason : Outside → Outside → List ℕ → End → Type 0
+HasLinesReason was now behind Finished = Answered was now [] behind × IsAtEnd now.left
+HasLinesReason was now behind Usage = ⊥
+HasLinesReason was now behind BadHeader = ⊥
+HasLinesReason was now behind (BadFrame at rule) = ⊥
+HasLinesReason was now behind ReadFault = Rose was.read_faults now.read_faults × AnsweredAll was now behind
+HasLinesReason was now behind DiskFault = Rose was.disk_faults now.disk_faults × AnsweredBefore was now behind
+HasLinesReason was now behind WriteFault = Rose was.write_faults now.write_faults × CutOff was now
+HasLinesReason was now behind LongLine = (more : List (List ℕ)) × (IsLongNext was.left more × Answered was now more behind)
+HasLinesReason was now behind NoMemory = ((more : List (List ℕ)) × Answered was now more behind) ⊎ AnsweredBefore was now behind
+
+-- the same of any run
 abbrev pub HasReason : Outside → Outside → List ℕ → End → Type 0
-HasReason was now behind Finished = Answered was now [] behind × IsAtEnd now.left
+HasReason was now behind Finished = HasLinesReason was now behind Finished
 HasReason was now behind Usage = Appends was.written now.written behind × (now.told ≡ was.told)
-HasReason was now behind Damaged =
-    IfSome was.told (λ file. 7 < length file) × (now.told ≡ was.told) × Appends was.written now.written behind
-HasReason was now behind ReadFault = Rose was.read_faults now.read_faults × ((more : List (List ℕ)) × Answered was now more behind)
+HasReason was now behind BadHeader = Unmounted was now mounts.BadHeader behind
+HasReason was now behind (BadFrame at rule) = Unmounted was now (mounts.BadFrame at rule) behind
+HasReason was now behind ReadFault = HasLinesReason was now behind ReadFault
 HasReason was now behind DiskFault =
-    Rose was.disk_faults now.disk_faults × ((done : List (List ℕ)) × ((more : List (List ℕ)) × Wrote was now done more behind))
-HasReason was now behind WriteFault = Rose was.write_faults now.write_faults × CutOff was now
-HasReason was now behind LongLine = (more : List (List ℕ)) × (IsLongNext was.left more × Answered was now more behind)
-HasReason was now behind NoMemory = (more : List (List ℕ)) × Answered was now more behind
+    (Rose was.disk_faults now.disk_faults × Unmounted was now mounts.DiskFault behind) ⊎ HasLinesReason was now behind DiskFault
+HasReason was now behind WriteFault = HasLinesReason was now behind WriteFault
+HasReason was now behind LongLine = HasLinesReason was now behind LongLine
+HasReason was now behind NoMemory = Unmounted was now mounts.NoMemory behind ⊎ HasLinesReason was now behind NoMemory
+
+-- the ends of a run whose journal is mounted
+abbrev pub IsOfLines : End → Type 0
+IsOfLines Usage = ⊥
+IsOfLines BadHeader = ⊥
+IsOfLines (BadFrame at rule) = ⊥
+IsOfLines Finished = ⊤
+IsOfLines ReadFault = ⊤
+IsOfLines DiskFault = ⊤
+IsOfLines WriteFault = ⊤
+IsOfLines LongLine = ⊤
+IsOfLines NoMemory = ⊤
 
 -- a run that has this end: its last line stands behind the answers, cut only where the sink failed and counted it
 pub record EndsBy (was now : Outside) (code : ℕ) : Type 0 where

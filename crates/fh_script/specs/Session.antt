@@ -1,24 +1,28 @@
 -- What a line does to a run over a journal.
-use Rattle.std.specs.Prelude.{◌≡◌, ◌≤◌, ℕ, List, ◌++◌, Option}
+use Rattle.std.specs.Prelude.{◌⊎◌, ⊤, ℕ, List, [], ◌++◌, Option, false}
 use Rattle.fh_base.specs.Faults.{Rose}
-use Rattle.fh_journal.specs.Journal.{StandsFor}
-use Rattle.fh_script.specs.Machine.{World, Done}
+use Rattle.fh_journal.specs.Keeping.{Keeps}
+use Rattle.fh_hub.specs.Hub.{StandsForHistory}
+use Rattle.fh_hub.specs.Replay.{Entry, payloads_of}
 use Rattle.fh_script.specs.declared.ends.End.{End}
-use Rattle.fh_script.specs.declared.ends.End.TheVariants.{Finished, Usage, Damaged, ReadFault, DiskFault, WriteFault, LongLine, NoMemory}
+use Rattle.fh_script.specs.declared.ends.End.TheVariants.{Finished, Usage, BadHeader, BadFrame, ReadFault, DiskFault, WriteFault, LongLine, NoMemory}
 
--- the world is the one that the line leaves, and whatever the journal stood for, its entries came behind
-pub record Records (was now : World) (told_was told_now : Option (List ℕ)) (done : Done) : Type 0 where
-  pub world : now ≡ done.world
-  pub stands : (payloads : List (List ℕ)) → StandsFor told_was payloads was.gate → StandsFor told_now (payloads ++ done.entries) now.gate
-  pub within : now.gate ≤ 1073741824
+-- where the bytes are told, they and each image stand for this history
+abbrev pub Holds : Option (List ℕ) → (List ℕ → Type 0) → List Entry → ℕ → Type 0
+Holds told images history gate = Keeps told images false (payloads_of history) [] gate
 
--- why a line has no answer: the disk failed and counted it, or memory was refused before any device call
-abbrev pub StopsFor : Option (List ℕ) → Option (List ℕ) → ℕ → ℕ → End → Type 0
-StopsFor told_was told_now before after DiskFault = Rose before after
-StopsFor told_was told_now before after NoMemory = told_now ≡ told_was
-StopsFor told_was told_now before after Finished = ⊥
-StopsFor told_was told_now before after Usage = ⊥
-StopsFor told_was told_now before after Damaged = ⊥
-StopsFor told_was told_now before after ReadFault = ⊥
-StopsFor told_was told_now before after WriteFault = ⊥
-StopsFor told_was told_now before after LongLine = ⊥
+-- the file stands for this history, or for the one with these entries behind it
+abbrev pub StandsEither : List Entry → List Entry → List ℕ → Type 0
+StandsEither history entries file = StandsForHistory history file ⊎ StandsForHistory (history ++ entries) file
+
+-- why a line has no answer: the disk failed and counted it, or memory was refused
+abbrev pub HasStopCause : ℕ → ℕ → End → Type 0
+HasStopCause before after DiskFault = Rose before after
+HasStopCause before after NoMemory = ⊤
+HasStopCause before after Finished = ⊥
+HasStopCause before after Usage = ⊥
+HasStopCause before after BadHeader = ⊥
+HasStopCause before after (BadFrame at rule) = ⊥
+HasStopCause before after ReadFault = ⊥
+HasStopCause before after WriteFault = ⊥
+HasStopCause before after LongLine = ⊥

@@ -1,31 +1,27 @@
 //! The script: lines are read, answered over the journal, and their answers written.
 //!
 //! Promised to the layer above: `script` is the whole command. Each line comes to what `answer_line` of
-//! specs/Machine.antt says: its answer, its entry or none, and the world behind it. The answers stand
-//! in the sink in the order of the lines, each written after its entry is on the disk and before the next
-//! line is read, and the journal stands for the entries. A run ends at the end of the source with
-//! status 0, or at its first fault, and each status comes only for its reason (`EndsBy` of
-//! specs/Script.antt). After a disk fault nothing is said of the file yet. The checkpoint is left alone.
+//! specs/Machine.antt says: its answer, its entries or none, and the world and the moment behind it. The
+//! answers stand in the sink in the order of the lines, each written after its step has returned and before
+//! the next line is read, and the journal stands for the history that it had with the entries behind it. A
+//! run ends at the end of the source with status 0, or at its first fault, and each status comes only for
+//! its reason (`EndsBy` of specs/Script.antt). The checkpoint is left alone.
 //!
 //! `read_command` reads one line into what it stands for, or its first fault, exactly as `line_of` of
 //! specs/Grammar.antt says. A text that an answer prints is one word of a line and is read as the same text
 //! (`printed_texts_are_read`).
 #![tactic(auto)]
 
-mod answers;
 mod ends;
-mod entries;
 mod faults;
 mod forms;
 mod grammar;
 mod laws;
 mod lines;
-mod names;
 mod running;
 mod session;
 mod words;
 
-pub use answers::Answer;
 pub use ends::End;
 pub use faults::LineFault;
 pub use grammar::{Line, read_command};

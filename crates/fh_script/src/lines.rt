@@ -1,7 +1,7 @@
 // The lines of a source.
-ghost use Rattle.std.specs.Prelude.{◌≡◌, ◌<◌, ◌≤◌, true, IfOk, IfErr, OnOk, length};
-ghost use Rattle.fh_base.specs.Faults.{Rose};
-ghost use Rattle.fh_script.specs.Lines.{ReadsLine, HasLineReason, line_length, line_text};
+ghost use Rattle.std.specs.Prelude.{◌≡◌, ◌<◌, ◌≤◌, true, false, IfOk, IfErr, OnOk, length};
+ghost use Rattle.std.specs.Io.KnownBytes.{Consumes, IsAtEnd};
+ghost use Rattle.fh_script.specs.Lines.{ReadsLine, HasLineReason, is_ended, line_feeds, line_length, line_text};
 
 use crate::End;
 use fh_base::{Source, read_byte};
@@ -17,7 +17,10 @@ pub fn read_line<S: Source>(source: &mut S, line: &mut Vec<u8>) -> Result<bool, 
     ensures found { IfOk result (ReadsLine (S.left source.old) (S.left source.new) line.new.items) }
     ensures short { OnOk result (line_length line.new.items ≤ 140000) }
     ensures stored { OnOk result (length line.new.items ≤ 140001) }
-    ensures reason { IfErr result (HasLineReason (S.left source.old) (S.read_faults source.old) (S.read_faults source.new)) }
+    ensures consumed { OnOk result (Consumes (S.left source.old) (S.left source.new) line.new.items) }
+    ensures feeds { OnOk result (is_ended line.new.items ≡ true → line_feeds line.new.items ≡ 1) }
+    ensures ended { OnOk result (is_ended line.new.items ≡ false → IsAtEnd (S.left source.new)) }
+    ensures reason { IfErr result (HasLineReason (S.left source.old) (S.left source.new) (S.read_faults source.old) (S.read_faults source.new)) }
     ensures less { IfOk result (λ found. found ≡ true → S.most source.new < S.most source.old) }
     ensures count { S.read_faults source.old ≤ S.read_faults source.new }
 {
@@ -33,7 +36,10 @@ pub fn read_line<S: Source>(source: &mut S, line: &mut Vec<u8>) -> Result<bool, 
             }
             return Ok(true);
         };
-        line.push(byte)?;
+        match line.push(byte) {
+            Ok(()) => {}
+            Err(_) => return Err(End::NoMemory),
+        }
         if byte == LINE_FEED {
             return Ok(true);
         }

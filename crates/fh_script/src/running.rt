@@ -1,25 +1,25 @@
 // The top call of the script.
 ghost use Rattle.std.specs.Prelude.{◌≡◌, ◌≤◌, ◌==◌, [], true, false, not, length, take, ℕ, IfSome};
-ghost use Rattle.std.specs.Io.KnownBytes.{Appends};
-ghost use Rattle.fh_base.specs.Faults.{Rose};
 ghost use Rattle.fh_script.specs.Ends.{code_of, last_line};
-ghost use Rattle.fh_journal.specs.Journal.{StandsFor};
-ghost use Rattle.fh_script.specs.Machine.{world, opening};
-ghost use Rattle.fh_script.specs.Script.{is_script, HasReason, EndsBy, Outside};
+ghost use Rattle.fh_hub.specs.State.{world_of};
+ghost use Rattle.fh_hub.specs.Replay.{replay, IsLegal};
+ghost use Rattle.fh_script.specs.Script.{is_script, HasLinesReason, HasReason, EndsBy, Outside, IsOfLines};
+ghost use Rattle.fh_script.specs.Session.{Holds};
 ghost use Rattle.fh_script.specs.Concluding.{Concludes};
 
 use crate::End;
+use crate::ends::damaged_line;
 use crate::lines::read_line;
 use crate::session::Session;
 use fh_base::{Sink, Source, Status, write_all};
 use fh_disk::Disk;
-use fh_journal::{Journal, MountFault, prepare};
+use fh_hub::prepare;
 use std::alloc::Global;
 
 /// Answers the lines of the source in order over the journal, and writes each answer before the next
 /// line is read. The words are those of the command line, the name of the command first. The status is
 /// 0 where the source was read to its end; docs/commands.md has the others, each with its last line.
-/// The checkpoint isn't used yet.
+/// The checkpoint is left alone.
 pub fn script<S: Source, O: Sink, J: Disk, K: Disk>(
     alloc: Global,
     words: &[String],
@@ -38,10 +38,16 @@ pub fn script<S: Source, O: Sink, J: Disk, K: Disk>(
     ensures checkpoint { _checkpoint.new ≡ _checkpoint.old }
 {
     if !is_script(words) {
-        return conclude(sink, End::Usage);
+        return conclude(sink, End::Usage, End::Usage.fixed_line());
     }
     let end = run(alloc, source, sink, journal);
-    conclude(sink, end)
+    let End::BadFrame { at, rule } = end else {
+        return conclude(sink, end, end.fixed_line());
+    };
+    match damaged_line(alloc, at, rule) {
+        Ok(line) => conclude(sink, end, line.as_str()),
+        Err(_) => conclude(sink, End::NoMemory, End::NoMemory.fixed_line()),
+    }
 }
 
 fn is_script(words: &[String]) -> bool
@@ -54,13 +60,14 @@ fn is_script(words: &[String]) -> bool
 }
 
 // Writes the last line of an end.
-fn conclude<O: Sink>(sink: &mut O, end: End) -> Status
+fn conclude<O: Sink>(sink: &mut O, end: End, line: &str) -> Status
+    requires { line.now ≡ last_line end }
     ensures status { result.code ≡ code_of end }
     ensures written { Concludes (O.written sink.old) (O.written sink.new) (last_line end) (O.write_faults sink.old) (O.write_faults sink.new) }
     ensures count { O.write_faults sink.old ≤ O.write_faults sink.new }
 {
     // The status stays where its line can't be written.
-    let _written = write_all(sink, end.last_line().as_bytes());
+    let _written = write_all(sink, line.as_bytes());
     Status { code: end.code() }
 }
 
@@ -75,39 +82,40 @@ fn run<S: Source, O: Sink, J: Disk>(
         (record { left = S.left source.old; read_faults = S.read_faults source.old; written = O.written sink.old; write_faults = O.write_faults sink.old; told = J.told journal.old; disk_faults = J.disk_faults journal.old })
         (record { left = S.left source.new; read_faults = S.read_faults source.new; written = O.written sink.new; write_faults = O.write_faults sink.new; told = J.told journal.new; disk_faults = J.disk_faults journal.new })
         [] result }
-    ensures unread { result ≡ End.Damaged → source.new ≡ source.old }
+    ensures unread { code_of result ≡ 4 → source.new ≡ source.old }
     ensures asked { result ≡ End.Usage → ⊥ }
     ensures count { O.write_faults sink.old ≤ O.write_faults sink.new }
 {
-    let gate = match prepare(journal) {
-        Ok(gate) => gate,
-        Err(MountFault::Later) => return End::Damaged,
-        Err(MountFault::DiskFault) => return End::DiskFault,
+    let state = match prepare(alloc, journal) {
+        Ok(state) => state,
+        Err(fault) => return End::from(fault),
     };
-    let mut session = Session::new(alloc, Journal::over(journal, gate));
+    let mut session = Session::over(alloc, journal, state);
     let end = answer_lines(alloc, source, sink, &mut session);
     session.close();
     end
 }
 
-// Answers the lines over a journal of no frames.
+// Answers the lines from the first on.
 fn answer_lines<S: Source, O: Sink, J: Disk>(
     alloc: Global,
     source: &mut S,
     sink: &mut O,
     session: &mut Session<'_, J>,
 ) -> End
-    requires begun { world session.old.queues.names session.old.messages session.old.journal.gate ≡ opening.world }
-    requires stands { StandsFor (J.told session.old.journal.disk.now) [] session.old.journal.gate }
-    requires short { IfSome (J.told session.old.journal.disk.now) (λ file. length file ≤ 7) }
-    ensures reason { HasReason
-        (record { left = S.left source.old; read_faults = S.read_faults source.old; written = O.written sink.old; write_faults = O.write_faults sink.old; told = J.told session.old.journal.disk.now; disk_faults = J.disk_faults session.old.journal.disk.now })
-        (record { left = S.left source.new; read_faults = S.read_faults source.new; written = O.written sink.new; write_faults = O.write_faults sink.new; told = J.told session.new.journal.disk.now; disk_faults = J.disk_faults session.new.journal.disk.now })
+    requires begun { session.old.now ≡ 0 }
+    requires world { world_of session.old.hub.state ≡ replay session.old.hub.state.history }
+    requires legal { IsLegal session.old.hub.state.history }
+    requires whole { session.old.hub.journal.torn ≡ false }
+    requires holds { Holds (J.told session.old.hub.journal.disk.now) (J.may_leave session.old.hub.journal.disk.now)
+        session.old.hub.state.history session.old.hub.journal.gate }
+    ensures reason { HasLinesReason
+        (record { left = S.left source.old; read_faults = S.read_faults source.old; written = O.written sink.old; write_faults = O.write_faults sink.old; told = J.told session.old.hub.journal.disk.now; disk_faults = J.disk_faults session.old.hub.journal.disk.now })
+        (record { left = S.left source.new; read_faults = S.read_faults source.new; written = O.written sink.new; write_faults = O.write_faults sink.new; told = J.told session.new.hub.journal.disk.now; disk_faults = J.disk_faults session.new.hub.journal.disk.now })
         [] result }
-    ensures asked { result ≡ End.Usage → ⊥ }
-    ensures whole { result ≡ End.Damaged → ⊥ }
+    ensures mounted { IsOfLines result }
     ensures writes { O.write_faults sink.old ≤ O.write_faults sink.new }
-    ensures same { session.new.journal.disk.ghost_name ≡ session.old.journal.disk.ghost_name }
+    ensures same { session.new.hub.journal.disk.ghost_name ≡ session.old.hub.journal.disk.ghost_name }
 {
     let mut line = Vec::new(alloc);
     loop {
@@ -123,6 +131,9 @@ fn answer_lines<S: Source, O: Sink, J: Disk>(
         match write_all(sink, text.as_bytes()) {
             Ok(()) => {}
             Err(_) => return End::WriteFault,
+        }
+        if !line.ends_with(b"\n") {
+            return End::Finished;
         }
     }
 }

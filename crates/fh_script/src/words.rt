@@ -1,7 +1,7 @@
 // The words of a line.
 ghost use Rattle.std.specs.Prelude.{◌≡◌, true, false, map, IfOk, MatchOption};
 ghost use Rattle.std.specs.Str.{is_utf8};
-ghost use Rattle.fh_script.specs.Words.{words, is_text_word};
+ghost use Rattle.fh_script.specs.Words.{words};
 
 use std::alloc::{AllocError, Global};
 
@@ -24,13 +24,4 @@ pub fn words_of<'a>(alloc: Global, text: &'a str) -> Result<Vec<&'a str>, AllocE
     text.split(' ')
         .filter(|word| !word.is_empty())
         .collect(alloc)
-}
-
-/// Whether a word stands for a text or a name: printable ASCII without a percent sign.
-pub fn is_text_word(word: &str) -> bool
-    ensures { result ≡ is_text_word word.now }
-{
-    word.as_bytes()
-        .iter()
-        .all(|b| 33 <= *b && *b <= 126 && *b != b'%')
 }

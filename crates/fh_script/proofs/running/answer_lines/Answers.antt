@@ -1,38 +1,93 @@
-use Rattle.std.proofs.Common.{◌∙◌, refl, arith}
-use Rattle.fh_script.proofs.Turning.{one_more, finished, line_stops, answer_stops, write_stops}
+use Rattle.std.proofs.Common.{◌∙◌, refl, sym, arith, rules}
+use Rattle.fh_script.proofs.Steps.{stands}
+use Rattle.fh_script.proofs.Turning.{begins, finished, line_stops, answer_stops, write_stops, one_more, ends_behind}
 use Rattle.fh_script.proofs.running.answer_lines.Goals as goal
+
+pub loop-line-init : goal.loop-line-init
+loop-line-init g c = record {
+  running = begins _ _ _ _ _ c.requires.world c.requires.begun;
+  whole = c.requires.whole;
+  holds = c.requires.holds;
+  reads = omega arith;
+  writes = omega arith;
+  disk = omega arith;
+  same = refl;
+}
 
 pub returns-in-Ok-false-clause-reason : goal.returns-in-Ok-false-clause-reason
 returns-in-Ok-false-clause-reason g c =
-    finished _ _ _ _ _ c.loop-line.invariant.running (rw c.in-Ok-false.field-0-test at c.in-Ok-false.ensures.found) c.requires.short
+    let old = c.args.session.now.hub in
+    let mid = c.loop-line.session.hub in
+    finished _ _ old.state.history c.requires.legal (stands (g.J.Disk.told old.journal.disk.now) (g.J.Disk.may_leave old.journal.disk.now) old.state.history old.journal.gate c.requires.holds)
+    _ _ _ _ c.read_line.new.line.items c.loop-line.invariant.running (rw c.in-Ok-false.field-0-test at c.in-Ok-false.ensures.found)
+    c.in-Ok-false.ensures.consumed c.in-Ok-false.ensures.stored
+    (stands (g.J.Disk.told mid.journal.disk.now) (g.J.Disk.may_leave mid.journal.disk.now) mid.state.history mid.journal.gate c.loop-line.invariant.holds)
 
 pub returns-in-Err-clause-reason : goal.returns-in-Err-clause-reason
 returns-in-Err-clause-reason g c =
-    line_stops _ _ _ _ _ c.in-Err.end c.loop-line.invariant.running c.in-Err.ensures.reason c.loop-line.invariant.reads c.requires.short
+    let old = c.args.session.now.hub in
+    let mid = c.loop-line.session.hub in
+    line_stops _ _ old.state.history c.requires.legal (stands (g.J.Disk.told old.journal.disk.now) (g.J.Disk.may_leave old.journal.disk.now) old.state.history old.journal.gate c.requires.holds)
+    _ _ _ _ _ c.in-Err.end c.loop-line.invariant.running c.in-Err.ensures.reason c.loop-line.invariant.reads
+    (stands (g.J.Disk.told mid.journal.disk.now) (g.J.Disk.may_leave mid.journal.disk.now) mid.state.history mid.journal.gate c.loop-line.invariant.holds)
 
 pub returns-in-Err-answer-clause-reason : goal.returns-in-Err-answer-clause-reason
 returns-in-Err-answer-clause-reason g c =
-    answer_stops _ _ _ _ _ _ c.in-Err-answer.end c.loop-line.invariant.running c.in-Err-answer.ensures.stops c.loop-line.invariant.disk
-    c.requires.short
+    let old = c.args.session.now.hub in
+    answer_stops _ _ old.state.history c.requires.legal (stands (g.J.Disk.told old.journal.disk.now) (g.J.Disk.may_leave old.journal.disk.now) old.state.history old.journal.gate c.requires.holds)
+    _ _ _ _ _ c.in-Err-answer.end c.read_line.new.line.items c.loop-line.invariant.running c.in-Err-answer.ensures.cause c.loop-line.invariant.disk
+    (rw c.in-Ok-true.field-0-test at c.in-Ok-true.ensures.found) c.in-Ok-true.ensures.consumed c.in-Ok-true.ensures.stored
+    (rw c.deref.ensures.value at c.answer.ensures.stands)
 
 pub returns-in-Err-write_all-clause-reason : goal.returns-in-Err-write_all-clause-reason
 returns-in-Err-write_all-clause-reason g c =
+    let old = c.args.session.now.hub in
+    let new = c.answer.new.self.hub in
     let writes = c.in-Err-write_all.ensures.written in
-    write_stops _ _ _ _ _ _ _ c.read_line.new.line.items c.as_bytes.result.now writes.0 _ c.loop-line.invariant.running
-    (rw c.in-Ok-true.field-0-test at c.in-Ok-true.ensures.found)
-    (rw c.deref.ensures.value at c.in-Ok.ensures.records)
-    (c.as_bytes.ensures.value ∙ (rw c.deref.ensures.value at c.in-Ok.ensures.text))
-    writes.1 writes.2 c.loop-line.invariant.writes (c.in-Err-write_all.ensures.cause.failed refl) c.requires.short
+    write_stops _ _ old.state.history c.requires.legal (stands (g.J.Disk.told old.journal.disk.now) (g.J.Disk.may_leave old.journal.disk.now) old.state.history old.journal.gate c.requires.holds)
+    _ _ _ _ _ _ _ _ c.read_line.new.line.items c.as_bytes.result.now writes.0 _ c.loop-line.invariant.running
+    (rw c.in-Ok-true.field-0-test at c.in-Ok-true.ensures.found) c.in-Ok-true.ensures.consumed c.in-Ok-true.ensures.stored
+    (record {
+      text_is = c.as_bytes.ensures.value ∙ (rw c.deref.ensures.value at c.in-Ok.ensures.text);
+      world_is = rw c.deref.ensures.value at c.in-Ok.ensures.world;
+      now_is = rw c.deref.ensures.value at c.in-Ok.ensures.moment;
+      grows = rw c.deref.ensures.value at c.in-Ok.ensures.history;
+    })
+    writes.1 writes.2 c.loop-line.invariant.writes (c.in-Err-write_all.ensures.cause.failed refl)
+    (stands (g.J.Disk.told new.journal.disk.now) (g.J.Disk.may_leave new.journal.disk.now) new.state.history new.journal.gate c.in-Ok.ensures.holds)
+
+pub returns-then-not-ends_with-clause-reason : goal.returns-then-not-ends_with-clause-reason
+returns-then-not-ends_with-clause-reason g c =
+    let old = c.args.session.now.hub in
+    let new = c.answer.new.self.hub in
+    ends_behind _ _ old.state.history c.requires.legal (stands (g.J.Disk.told old.journal.disk.now) (g.J.Disk.may_leave old.journal.disk.now) old.state.history old.journal.gate c.requires.holds)
+    _ _ _ _ _ _ _ _ c.read_line.new.line.items c.as_bytes.result.now c.loop-line.invariant.running
+    (rw c.in-Ok-true.field-0-test at c.in-Ok-true.ensures.found) c.in-Ok-true.ensures.consumed c.in-Ok-true.ensures.short
+    (record {
+      text_is = c.as_bytes.ensures.value ∙ (rw c.deref.ensures.value at c.in-Ok.ensures.text);
+      world_is = rw c.deref.ensures.value at c.in-Ok.ensures.world;
+      now_is = rw c.deref.ensures.value at c.in-Ok.ensures.moment;
+      grows = rw c.deref.ensures.value at c.in-Ok.ensures.history;
+    })
+    c.in-Ok-write_all.ensures.written
+    (c.in-Ok-true.ensures.ended (sym (rw c.deref-in-loop-line.ensures.value at c.ends_with.ensures.value) ∙ c.if-not-ends_with.true))
+    (stands (g.J.Disk.told new.journal.disk.now) (g.J.Disk.may_leave new.journal.disk.now) new.state.history new.journal.gate c.in-Ok.ensures.holds)
 
 pub loop-line-preserved : goal.loop-line-preserved
 loop-line-preserved g c = record {
   running =
-      one_more _ _ _ _ _ _ _ _ _ _ c.read_line.new.line.items c.as_bytes.result.now c.loop-line.invariant.running
-      (rw c.in-Ok-true.field-0-test at c.in-Ok-true.ensures.found) c.in-Ok-true.ensures.short
-      (rw c.deref.ensures.value at c.in-Ok.ensures.records)
-      (c.as_bytes.ensures.value ∙ (rw c.deref.ensures.value at c.in-Ok.ensures.text))
+      one_more c.args.session.now.hub.state.history _ _ _ _ _ _ _ _ _ _ _ _ c.read_line.new.line.items c.as_bytes.result.now c.loop-line.invariant.running
+      (rw c.in-Ok-true.field-0-test at c.in-Ok-true.ensures.found) c.in-Ok-true.ensures.consumed c.in-Ok-true.ensures.short
+      (c.in-Ok-true.ensures.feeds (sym (rw c.deref-in-loop-line.ensures.value at c.ends_with.ensures.value) ∙ c.if-not-ends_with.false))
+      (record {
+        text_is = c.as_bytes.ensures.value ∙ (rw c.deref.ensures.value at c.in-Ok.ensures.text);
+        world_is = rw c.deref.ensures.value at c.in-Ok.ensures.world;
+        now_is = rw c.deref.ensures.value at c.in-Ok.ensures.moment;
+        grows = rw c.deref.ensures.value at c.in-Ok.ensures.history;
+      })
       c.in-Ok-write_all.ensures.written;
-  within = c.in-Ok.ensures.records.within;
+  whole = c.in-Ok.ensures.still_whole;
+  holds = c.in-Ok.ensures.holds;
   reads = omega (arith, c.loop-line.invariant.reads, c.read_line.ensures.count);
   writes = omega (arith, c.loop-line.invariant.writes, c.write_all.ensures.cause.later);
   disk = omega (arith, c.loop-line.invariant.disk, c.answer.ensures.count);

@@ -1,18 +1,22 @@
-use Rattle.std.proofs.Common.{◌≡◌, ◌≤◌}
-use Rattle.fh_script.specs.Machine.{world}
-use Rattle.fh_script.proofs.Turns.{IsRunning}
+use Rattle.std.proofs.Common.{◌≡◌, ◌≤◌, false}
+use Rattle.fh_hub.specs.State.{world_of}
+use Rattle.fh_script.specs.Session.{Holds}
+use Rattle.fh_script.proofs.Turns.{IsDone}
 use Rattle.fh_script.proofs.running.answer_lines.Given as goal
 
 abbrev pub invariant-loop-line : goal.invariant-loop-line
 invariant-loop-line g l = record {
   running :
-      IsRunning (g.S.Source.left l.initial.source) (g.S.Source.left l.source) (g.O.Sink.written l.initial.sink) (g.O.Sink.written l.sink)
-      (g.J.Disk.told l.session.journal.disk.now) (world l.session.queues.names l.session.messages l.session.journal.gate);
-  within : l.session.journal.gate ≤ 1073741824;
+      IsDone l.initial.session.hub.state.history (g.S.Source.left l.initial.source) (g.S.Source.left l.source) (g.O.Sink.written l.initial.sink)
+      (g.O.Sink.written l.sink) (world_of l.session.hub.state) l.session.now l.session.hub.state.history;
+  whole : l.session.hub.journal.torn ≡ false;
+  holds :
+      Holds (g.J.Disk.told l.session.hub.journal.disk.now) (g.J.Disk.may_leave l.session.hub.journal.disk.now) l.session.hub.state.history
+      l.session.hub.journal.gate;
   reads : g.S.Source.read_faults l.initial.source ≤ g.S.Source.read_faults l.source;
   writes : g.O.Sink.write_faults l.initial.sink ≤ g.O.Sink.write_faults l.sink;
-  disk : g.J.Disk.disk_faults l.initial.session.journal.disk.now ≤ g.J.Disk.disk_faults l.session.journal.disk.now;
-  same : l.session.journal.disk.ghost_name ≡ l.initial.session.journal.disk.ghost_name;
+  disk : g.J.Disk.disk_faults l.initial.session.hub.journal.disk.now ≤ g.J.Disk.disk_faults l.session.hub.journal.disk.now;
+  same : l.session.hub.journal.disk.ghost_name ≡ l.initial.session.hub.journal.disk.ghost_name;
 }
 
 abbrev pub decreases-loop-line : goal.decreases-loop-line

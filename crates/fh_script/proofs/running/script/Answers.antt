@@ -1,8 +1,9 @@
-use Rattle.std.proofs.Common.{refl, arith}
+use Rattle.std.proofs.Common.{inl, refl, arith}
 use Rattle.fh_script.specs.Script.{Outside}
 use Rattle.fh_script.proofs.Turning.{appends-nothing}
-use Rattle.fh_script.specs.declared.ends.End.TheVariants.{Usage}
+use Rattle.fh_script.specs.declared.ends.End.TheVariants.{Usage, NoMemory}
 use Rattle.fh_script.proofs.LastLines.{ends_by}
+use Rattle.fh_script.proofs.Starting.{without_memory}
 use Rattle.fh_script.proofs.running.script.Goals as goal
 
 pub returns-then-not-is_script-clause-ends : goal.returns-then-not-is_script-clause-ends
@@ -18,8 +19,8 @@ returns-then-not-is_script-clause-ends g c =
     ends_by start start _ _ Usage _ c.conclude.ensures.status (appends-nothing (g.O.Sink.written c.args.sink.now), refl) (omega arith)
     c.conclude.ensures.count c.conclude.ensures.written
 
-pub returns-clause-ends : goal.returns-clause-ends
-returns-clause-ends g c =
+pub returns-in_default-clause-ends : goal.returns-in_default-clause-ends
+returns-in_default-clause-ends g c =
     ends_by _ (record {
       left = g.S.Source.left c.run-end.new.source;
       read_faults = g.S.Source.read_faults c.run-end.new.source;
@@ -27,4 +28,15 @@ returns-clause-ends g c =
       write_faults = g.O.Sink.write_faults c.run-end.new.sink;
       told = g.J.Disk.told c.run-end.new.journal;
       disk_faults = g.J.Disk.disk_faults c.run-end.new.journal;
-    }) _ _ c.run-end.result _ c.conclude-2.ensures.status c.run-end.ensures.reason c.run-end.ensures.count c.conclude-2.ensures.count c.conclude-2.ensures.written
+    }) _ _ c.run-end.result _ c.conclude-in_default.ensures.status c.run-end.ensures.reason c.run-end.ensures.count c.conclude-in_default.ensures.count c.conclude-in_default.ensures.written
+
+pub returns-in-Err-clause-ends : goal.returns-in-Err-clause-ends
+returns-in-Err-clause-ends g c =
+    ends_by _ (record {
+      left = g.S.Source.left c.run-end.new.source;
+      read_faults = g.S.Source.read_faults c.run-end.new.source;
+      written = g.O.Sink.written c.run-end.new.sink;
+      write_faults = g.O.Sink.write_faults c.run-end.new.sink;
+      told = g.J.Disk.told c.run-end.new.journal;
+      disk_faults = g.J.Disk.disk_faults c.run-end.new.journal;
+    }) _ _ NoMemory _ c.conclude-in-Err.ensures.status (inl (without_memory _ _ c.in-BadFrame.at c.in-BadFrame.rule c.in-BadFrame.ensures.reason)) c.run-end.ensures.count c.conclude-in-Err.ensures.count c.conclude-in-Err.ensures.written

@@ -1,0 +1,18 @@
+use Rattle.fh_hub.specs.State.{world_of}
+use Rattle.fh_script.specs.Machine.{answer_line}
+use Rattle.fh_script.proofs.Steps.{leaves_as_was}
+use Rattle.fh_script.proofs.session.Session.answer.Goals as goal
+
+pub returns-in_ok-set_moment-in-Ok-At-clause-any_moment : goal.returns-in_ok-set_moment-in-Ok-At-clause-any_moment
+returns-in_ok-set_moment-in-Ok-At-clause-any_moment g c =
+    let s = c.args.self.now in
+    leaves_as_was g.J.Disk.told g.J.Disk.may_leave g.J.Disk.moment g.J.Disk.left_since s.hub.journal.disk.now
+    (g.met.J.Disk.only_now s.hub.journal.disk.now) s.hub.state.history (answer_line (world_of s.hub.state) s.now c.args.line.now).entries
+    s.hub.journal.gate c.requires.holds
+
+pub returns-in_err-set_moment-in-Ok-At-clause-any_moment : goal.returns-in_err-set_moment-in-Ok-At-clause-any_moment
+returns-in_err-set_moment-in-Ok-At-clause-any_moment g c =
+    let s = c.args.self.now in
+    leaves_as_was g.J.Disk.told g.J.Disk.may_leave g.J.Disk.moment g.J.Disk.left_since s.hub.journal.disk.now
+    (g.met.J.Disk.only_now s.hub.journal.disk.now) s.hub.state.history (answer_line (world_of s.hub.state) s.now c.args.line.now).entries
+    s.hub.journal.gate c.requires.holds
