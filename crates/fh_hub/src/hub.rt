@@ -123,6 +123,7 @@ impl<'d, J: Disk> Hub<'d, J> {
         ensures keeps { (failed : Entry) → KeepsIn self.old failed
             → KeepsIn self.new failed ⊎ KeepsIn self.new (entry_at self.old.state command.now now) }
         ensures durable { is_recorded (step (world_of self.old.state) command.now now) ≡ true → OnOk result (IsDurable self.new) }
+        ensures mended { is_recorded (step (world_of self.old.state) command.now now) ≡ true → OnOk result (self.new.journal.torn ≡ false) }
         ensures whole { OnOk result (self.old.journal.torn ≡ false → self.new.journal.torn ≡ false) }
         ensures any_moment { (failed : Entry) → KeepsIn self.old failed → LeavesSince self.old self.new
             (MayStandFor self.old.journal.torn self.old.state.history failed (noted (world_of self.old.state) command.now now)) }
