@@ -1,5 +1,5 @@
 -- What a crash during a step may be read as.
-use Rattle.std.proofs.Common.{◌≡◌, inl, inr, ℕ, Bool, false, List, [], ◌∷◌, ◌++◌, Option, Some, None, IfSome, sym, ◌∙◌, subst, ap}
+use Rattle.std.proofs.Common.{◌≡◌, inl, inr, ℕ, Bool, false, List, [], ◌∷◌, ◌++◌, Option, Some, None, IfSome, refl, sym, ◌∙◌, subst, ap}
 use Rattle.fh_disk.specs.Moments.{LeavesOnly}
 use Rattle.fh_journal.specs.Journal.{IsJournalOf, MayReadAs}
 use Rattle.fh_journal.specs.Keeping.{Keeps, IsBeforeOrAfter, StaysTold}
