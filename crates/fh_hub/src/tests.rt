@@ -6,6 +6,12 @@ use fh_journal::FrameRule;
 use std::alloc::Global;
 use std::test::Fail;
 
+/// The calls of mounting an empty file: a sync, the length, a write and a sync.
+const MOUNT: u64 = 4;
+
+/// The calls of an append to a journal that is whole.
+const APPEND: u64 = 4;
+
 const HEADER: [u8; 6] = [0x46, 0x4E, 0x48, 0x4A, 0, 1];
 
 // A disk with these bytes, of which so many calls pass.
@@ -157,10 +163,9 @@ fn steps_that_record_nothing_make_no_call(rt: HostRuntime) -> Result<(), Fail> {
 fn a_stop_in_an_append(rt: HostRuntime) -> Result<(), Fail> {
     let alloc = rt.alloc();
     for passed in 1..5 {
-        let mut disk = disk_of(alloc, b"", 99)?;
+        let mut disk = disk_of(alloc, b"", MOUNT + APPEND + passed)?;
         let mut hub = mounted(alloc, &mut disk)?;
         assert_eq!(rt; answer(alloc, &mut hub, &make(alloc)?, 0)?.as_str(), "ok");
-        hub.journal.disk.stop_after(passed);
         let _step = hub.step(alloc, &put(alloc, "hi")?, 0);
         let disk = hub.close();
         for choice in 0..8 {
@@ -177,15 +182,15 @@ fn a_stop_in_an_append(rt: HostRuntime) -> Result<(), Fail> {
 #[test]
 fn a_fault_then_ok(rt: HostRuntime) -> Result<(), Fail> {
     let alloc = rt.alloc();
-    let mut disk = disk_of(alloc, b"", 99)?;
+    let calls = [MOUNT + APPEND + APPEND].to_vec(alloc)?;
+    let plan = FaultPlan::new(Failing::Listed { calls });
+    let mut disk = MemoryDisk::recording(alloc, Vec::new(alloc), plan)?;
     let mut hub = mounted(alloc, &mut disk)?;
     assert_eq!(rt; answer(alloc, &mut hub, &make(alloc)?, 0)?.as_str(), "ok");
-    hub.journal.disk.stop_after(3);
     let failed = hub.step(alloc, &put(alloc, "a")?, 0);
     assert!(rt; matches!(failed, Err(StepFault::DiskFault)));
     assert!(rt; hub.journal.torn());
     assert_eq!(rt; hub.history().len(), 1);
-    hub.journal.disk.stop_after(99);
     assert_eq!(rt;
         answer(alloc, &mut hub, &put(alloc, "b")?, 0)?.as_str(),
         "ok 1 1"
@@ -206,9 +211,8 @@ fn a_fault_then_ok(rt: HostRuntime) -> Result<(), Fail> {
 fn each_call_of_a_step_may_fail(rt: HostRuntime) -> Result<(), Fail> {
     let alloc = rt.alloc();
     for passed in 0..4 {
-        let mut disk = disk_of(alloc, b"", 99)?;
+        let mut disk = disk_of(alloc, b"", MOUNT + passed)?;
         let mut hub = mounted(alloc, &mut disk)?;
-        hub.journal.disk.stop_after(passed);
         let failed = hub.step(alloc, &make(alloc)?, 0);
         assert!(rt; matches!(failed, Err(StepFault::DiskFault)));
         assert_eq!(rt; (hub.journal.torn(), hub.history().len()), (passed > 1, 0));
@@ -221,6 +225,9 @@ fn each_call_of_a_step_may_fail(rt: HostRuntime) -> Result<(), Fail> {
 fn journal_of(alloc: Global, payloads: &[&[u8]]) -> Result<Vec<u8>, Fail> {
     let mut bytes = HEADER.to_vec(alloc)?;
     for payload in payloads {
+        if payload.len() > 100 {
+            return Err(Fail::from("too long"));
+        }
         bytes.push(1)?;
         bytes.extend_from_slice(&(payload.len() as u32).to_be_bytes())?;
         bytes.extend_from_slice(payload)?;
