@@ -2,7 +2,7 @@
 use Rattle.std.proofs.Common.{◌≡◌, ◌⊎◌, inl, inr, ⊎_elim, ℕ, Bool, true, false, List, [], ◌∷◌, ◌++◌, Option, Some, None, IfSome, refl, sym, ◌∙◌, subst, ap}
 use Rattle.fh_disk.specs.Moments.{LeavesOnly}
 use Rattle.fh_journal.specs.Journal.{IsJournalOf, IsOf, MayReadAs}
-use Rattle.fh_journal.specs.Keeping.{Keeps, Each, IsBeforeOrAfter}
+use Rattle.fh_journal.specs.Keeping.{Keeps, Each, IsBeforeOrAfter, StaysTold}
 use Rattle.fh_journal.proofs.Bytes.{reads}
 use Rattle.fh_journal.proofs.Moments.{started, widens, where_told}
 use Rattle.fh_hub.specs.Replay.{Entry, bytes_of, payloads_of}
@@ -55,3 +55,7 @@ keeps_pushed told images history e failed payload gate is keeps = record {
     of_told : (bytes : Option (List ℕ)) → Keeps bytes images false (payloads_of (history ++ e ∷ [])) [] gate → Keeps bytes images false (payloads_of (history ++ e ∷ [])) (bytes_of failed) gate
     of_told None keeps = tt
     of_told (Some file) keeps = record { as_read = keeps.as_read; after_crash = keeps.after_crash }
+
+pub stays_as_told : (told : Option (List ℕ)) → StaysTold told told
+stays_as_told None = refl
+stays_as_told (Some file) = tt

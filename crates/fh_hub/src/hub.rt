@@ -3,7 +3,7 @@ ghost use Rattle.std.specs.Prelude.{◌≡◌, ◌⊎◌, ◌≤◌, ◌∷◌, 
 ghost use Rattle.fh_base.specs.Faults.{Rose};
 ghost use Rattle.fh_disk.specs.Disk.{OnlyTold};
 ghost use Rattle.fh_disk.specs.Moments.{LeavesOnly};
-ghost use Rattle.fh_journal.specs.Keeping.{Keeps};
+ghost use Rattle.fh_journal.specs.Keeping.{Keeps, StaysTold};
 ghost use Rattle.fh_journal.specs.Mounting.{IsBeingMade};
 ghost use Rattle.fh_queues.specs.Edits.{planned as planned_queues};
 ghost use Rattle.fh_queues.specs.Places.{place_of};
@@ -109,6 +109,7 @@ impl<'d, J: Disk> Hub<'d, J> {
 
     /// Makes one step at a moment in milliseconds. All memory is taken before the first call on the disk; a
     /// step that isn't recorded makes none. After any fault the world and the history are as before.
+    #[tactic(auto, using(crate::proofs::Crashes::stays_as_told))]
     pub fn step(&mut self, alloc: Global, command: &Command, now: u64) -> Result<Reply, StepFault>
         ensures answers { Answers result (step (world_of self.old.state) command.now now)
             (J.disk_faults self.old.journal.disk.now) (J.disk_faults self.new.journal.disk.now) }
@@ -125,6 +126,7 @@ impl<'d, J: Disk> Hub<'d, J> {
         ensures durable { is_recorded (step (world_of self.old.state) command.now now) ≡ true
             → OnOk result (OnlyTold (J.told self.new.journal.disk.now) (J.may_leave self.new.journal.disk.now)) }
         ensures whole { OnOk result (self.old.journal.torn ≡ false → self.new.journal.torn ≡ false) }
+        ensures told { StaysTold (J.told self.old.journal.disk.now) (J.told self.new.journal.disk.now) }
         ensures any_moment { (failed : Entry)
             → KeepsHistory (J.told self.old.journal.disk.now) (J.may_leave self.old.journal.disk.now) self.old.journal.torn self.old.state.history failed self.old.journal.gate
             → IfSome (J.told self.old.journal.disk.now) (λ _. LeavesOnly J.moment J.left_since self.old.journal.disk.now self.new.journal.disk.now
@@ -139,6 +141,7 @@ impl<'d, J: Disk> Hub<'d, J> {
     }
 
     // Records a change: it is staged, its entry is appended, and then it is settled.
+    #[tactic(auto, using(crate::proofs::Crashes::stays_as_told))]
     fn record(&mut self, change: Change) -> Result<Reply, StepFault>
         ghost e: { Entry }
         requires planned { IsPlanned self.old.state (planned_queues self.old.state.queues.part change.queues) change.payload e }
@@ -153,6 +156,7 @@ impl<'d, J: Disk> Hub<'d, J> {
             ⊎ KeepsHistory (J.told self.new.journal.disk.now) (J.may_leave self.new.journal.disk.now) self.new.journal.torn self.new.state.history e self.new.journal.gate }
         ensures durable { OnOk result (OnlyTold (J.told self.new.journal.disk.now) (J.may_leave self.new.journal.disk.now)) }
         ensures whole { OnOk result (self.new.journal.torn ≡ false) }
+        ensures told { StaysTold (J.told self.old.journal.disk.now) (J.told self.new.journal.disk.now) }
         ensures any_moment { (failed : Entry)
             → KeepsHistory (J.told self.old.journal.disk.now) (J.may_leave self.old.journal.disk.now) self.old.journal.torn self.old.state.history failed self.old.journal.gate
             → IfSome (J.told self.old.journal.disk.now) (λ _. LeavesOnly J.moment J.left_since self.old.journal.disk.now self.new.journal.disk.now
