@@ -1,5 +1,6 @@
 // The top call of the script.
-ghost use Rattle.std.specs.Prelude.{◌≡◌, ◌≤◌, ◌==◌, [], true, false, not, length, take, ℕ, IfSome};
+ghost use Rattle.std.specs.Prelude.{◌≡◌, ◌⊎◌, ◌≤◌, ◌==◌, [], true, false, not, length, take, ℕ, IfSome};
+ghost use Rattle.fh_disk.specs.Moments.{LeavesOnly};
 ghost use Rattle.fh_script.specs.Ends.{code_of, last_line};
 ghost use Rattle.fh_hub.specs.State.{world_of};
 ghost use Rattle.fh_hub.specs.Replay.{replay, IsLegal};
@@ -32,6 +33,7 @@ pub fn script<S: Source, O: Sink, J: Disk, K: Disk>(
     ensures ends { EndsBy
         (record { left = S.left source.old; read_faults = S.read_faults source.old; written = O.written sink.old; write_faults = O.write_faults sink.old; told = J.told journal.old; disk_faults = J.disk_faults journal.old })
         (record { left = S.left source.new; read_faults = S.read_faults source.new; written = O.written sink.new; write_faults = O.write_faults sink.new; told = J.told journal.new; disk_faults = J.disk_faults journal.new })
+        (λ P. IfSome (J.told journal.old) (λ _. LeavesOnly J.moment J.left_since journal.old journal.new (λ c. J.may_leave journal.old c ⊎ P c)))
         result.code }
     ensures unasked { result.code ≡ 2 → (source.new ≡ source.old) × (journal.new ≡ journal.old) }
     ensures unread { result.code ≡ 4 → source.new ≡ source.old }
@@ -81,6 +83,7 @@ fn run<S: Source, O: Sink, J: Disk>(
     ensures reason { HasReason
         (record { left = S.left source.old; read_faults = S.read_faults source.old; written = O.written sink.old; write_faults = O.write_faults sink.old; told = J.told journal.old; disk_faults = J.disk_faults journal.old })
         (record { left = S.left source.new; read_faults = S.read_faults source.new; written = O.written sink.new; write_faults = O.write_faults sink.new; told = J.told journal.new; disk_faults = J.disk_faults journal.new })
+        (λ P. IfSome (J.told journal.old) (λ _. LeavesOnly J.moment J.left_since journal.old journal.new (λ c. J.may_leave journal.old c ⊎ P c)))
         [] result }
     ensures unread { code_of result ≡ 4 → source.new ≡ source.old }
     ensures asked { result ≡ End.Usage → ⊥ }
@@ -112,6 +115,7 @@ fn answer_lines<S: Source, O: Sink, J: Disk>(
     ensures reason { HasLinesReason
         (record { left = S.left source.old; read_faults = S.read_faults source.old; written = O.written sink.old; write_faults = O.write_faults sink.old; told = J.told session.old.hub.journal.disk.now; disk_faults = J.disk_faults session.old.hub.journal.disk.now })
         (record { left = S.left source.new; read_faults = S.read_faults source.new; written = O.written sink.new; write_faults = O.write_faults sink.new; told = J.told session.new.hub.journal.disk.now; disk_faults = J.disk_faults session.new.hub.journal.disk.now })
+        (λ P. IfSome (J.told session.old.hub.journal.disk.now) (λ _. LeavesOnly J.moment J.left_since session.old.hub.journal.disk.now session.new.hub.journal.disk.now P))
         [] result }
     ensures mounted { IsOfLines result }
     ensures writes { O.write_faults sink.old ≤ O.write_faults sink.new }

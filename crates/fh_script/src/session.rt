@@ -2,6 +2,7 @@
 ghost use Rattle.std.specs.Prelude.{◌≡◌, ◌≤◌, ◌++◌, [], ◌∷◌, false, Some, IfOk, IfErr, IfSome, OnOk, string_bytes};
 ghost use Rattle.fh_disk.specs.Moments.{LeavesOnly};
 ghost use Rattle.fh_event.specs.Lines.{answer_line as answer_line_of};
+ghost use Rattle.fh_journal.specs.Keeping.{StaysTold};
 ghost use Rattle.fh_hub.specs.State.{world_of, IsIdle};
 ghost use Rattle.fh_script.specs.Machine.{answer_line, at_text, fault_text, make_step, moment_after, printed};
 ghost use Rattle.fh_script.specs.Session.{HasStopCause, Holds, StandsEither};
@@ -49,7 +50,7 @@ impl<'d, J: Disk> Session<'d, J> {
     }
 
     /// Does what a line says, and gives the text that answers it: empty for a line of no words.
-    #[tactic(auto, unfolding(crate::specs::Machine::answer_line))]
+    #[tactic(auto, unfolding(crate::specs::Machine::answer_line), using(crate::proofs::Steps::stays_as_told))]
     pub fn answer(&mut self, alloc: Global, line: &[u8]) -> Result<String, End>
         requires whole { self.old.hub.journal.torn ≡ false }
         requires holds { Holds (J.told self.old.hub.journal.disk.now) (J.may_leave self.old.hub.journal.disk.now) self.old.hub.state.history self.old.hub.journal.gate }
@@ -67,6 +68,7 @@ impl<'d, J: Disk> Session<'d, J> {
         ensures any_moment { IfSome (J.told self.old.hub.journal.disk.now) (λ _. LeavesOnly J.moment J.left_since
             self.old.hub.journal.disk.now self.new.hub.journal.disk.now
             (StandsEither self.old.hub.state.history (answer_line (world_of self.old.hub.state) self.old.now line.now).entries)) }
+        ensures told { StaysTold (J.told self.old.hub.journal.disk.now) (J.told self.new.hub.journal.disk.now) }
         ensures count { J.disk_faults self.old.hub.journal.disk.now ≤ J.disk_faults self.new.hub.journal.disk.now }
         ensures same { self.new.hub.journal.disk.ghost_name ≡ self.old.hub.journal.disk.ghost_name }
     {
@@ -95,6 +97,7 @@ impl<'d, J: Disk> Session<'d, J> {
         ensures any_moment { IfSome (J.told self.old.hub.journal.disk.now) (λ _. LeavesOnly J.moment J.left_since
             self.old.hub.journal.disk.now self.new.hub.journal.disk.now
             (StandsEither self.old.hub.state.history (make_step (world_of self.old.hub.state) self.old.now command.now).entries)) }
+        ensures told { StaysTold (J.told self.old.hub.journal.disk.now) (J.told self.new.hub.journal.disk.now) }
         ensures count { J.disk_faults self.old.hub.journal.disk.now ≤ J.disk_faults self.new.hub.journal.disk.now }
         ensures same { self.new.hub.journal.disk.ghost_name ≡ self.old.hub.journal.disk.ghost_name }
     {
