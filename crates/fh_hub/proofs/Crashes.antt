@@ -1,8 +1,8 @@
 -- What a crash during a step may be read as.
-use Rattle.std.proofs.Common.{◌≡◌, ◌⊎◌, inl, inr, ⊎_elim, ℕ, Bool, true, false, List, [], ◌∷◌, ◌++◌, Option, Some, None, IfSome, refl, sym, ◌∙◌, subst, ap}
+use Rattle.std.proofs.Common.{◌≡◌, inl, inr, ℕ, Bool, false, List, [], ◌∷◌, ◌++◌, Option, Some, None, IfSome, refl, sym, ◌∙◌, subst, ap}
 use Rattle.fh_disk.specs.Moments.{LeavesOnly}
-use Rattle.fh_journal.specs.Journal.{IsJournalOf, IsOf, MayReadAs}
-use Rattle.fh_journal.specs.Keeping.{Keeps, Each, IsBeforeOrAfter, StaysTold}
+use Rattle.fh_journal.specs.Journal.{IsJournalOf, MayReadAs}
+use Rattle.fh_journal.specs.Keeping.{Keeps, IsBeforeOrAfter, StaysTold}
 use Rattle.fh_journal.proofs.Bytes.{reads}
 use Rattle.fh_journal.proofs.Moments.{started, widens, where_told}
 use Rattle.fh_hub.specs.Replay.{Entry, bytes_of, payloads_of}

@@ -1,5 +1,5 @@
 -- Why a journal isn't mounted.
-use Rattle.std.proofs.Common.{◌≡◌, inl, inr, ℕ, zero, suc, ◌+◌, ◌<◌, ◌≤◌, Bool, true, false, List, [], ◌∷◌, ◌++◌, length, take, drop, map, Option, Some, None, Ok, Err, refl, sym, ap, ◌∙◌, subst, arith, get_or, length-append}
+use Rattle.std.proofs.Common.{◌≡◌, inl, inr, ℕ, zero, suc, ◌+◌, ◌<◌, ◌≤◌, Bool, true, false, List, [], ◌∷◌, ◌++◌, length, take, drop, Option, Some, None, Ok, Err, refl, sym, ap, ◌∙◌, subst, arith, get_or, length-append}
 use Rattle.std.specs.Prelude.{nat_le, if◌then◌else◌, Result, IfErr}
 use Rattle.std.specs.List.{flat_map}
 use Rattle.std.specs.Int.{w32, to_be_bytes}
@@ -9,14 +9,14 @@ use Rattle.fh_event.proofs.EntryLaws.{read_again}
 use Rattle.fh_journal.specs.Frames.{payloads_of as payloads_in, frames_from}
 use Rattle.fh_journal.specs.Journal.{frame, opened, Stands}
 use Rattle.fh_journal.specs.Keeping.{Keeps}
-use Rattle.fh_journal.specs.Mounting.{MountsTold, mounted_file, fresh_file, IsLeft}
+use Rattle.fh_journal.specs.Mounting.{MountsTold, mounted_file, fresh_file}
 use Rattle.fh_journal.specs.declared.frames.Frame.{Frame}
 use Rattle.fh_journal.specs.declared.mounting.Prepared.{Prepared}
 use Rattle.fh_journal.proofs.Readings.{stands_once}
 use Rattle.fh_hub.specs.World.{World}
 use Rattle.fh_hub.specs.Replay.{Entry, payloads_of, replay, IsLegal, IsNext}
 use Rattle.fh_hub.specs.State.{HubState, world_of}
-use Rattle.fh_hub.specs.Mounting.{HasEntryReason, HasPlanReason, HasReplayReason, IsRefusedAt, IsBrokenAt, MountsHistory, MountsBytes, fault_of_entry}
+use Rattle.fh_hub.specs.Mounting.{HasEntryReason, HasPlanReason, HasReplayReason, IsRefusedAt, MountsHistory, MountsBytes, fault_of_entry}
 use Rattle.fh_hub.specs.declared.faults.HubFault.{HubFault}
 use Rattle.fh_hub.specs.declared.faults.HubFault.TheVariants.{BadHeader, BadFrame, DiskFault, NoMemory}
 use Rattle.fh_hub.specs.declared.faults.HubRule.TheVariants.{Frame as OfFrame, Event, Refused}

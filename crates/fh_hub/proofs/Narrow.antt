@@ -1,5 +1,5 @@
 -- A command that the queues accept has short texts.
-use Rattle.std.proofs.Common.{◌≡◌, ℕ, ◌+◌, ◌≤◌, Bool, true, false, List, [], ◌∷◌, length, Option, Some, None, Ok, Err, refl, subst, arith}
+use Rattle.std.proofs.Common.{◌≡◌, ℕ, ◌≤◌, Bool, true, false, List, [], ◌∷◌, length, Option, Some, None, Ok, Err, refl, subst, arith}
 use Rattle.std.specs.Prelude.{nat_lt, if◌then◌else◌, IfSome, Result}
 use Rattle.std.proofs.lemmas.Bool.Decides.{nat_tests}
 use Rattle.fh_base.specs.Names.{is_queue_name}
@@ -15,7 +15,7 @@ use Rattle.fh_queues.specs.Part.{QueuePart}
 use Rattle.fh_queues.specs.Rules.{text_rule, new_text_rule, ttl_rule, delay_rule, queue_rule, store_rule, range_rule, message_rule, put_rule, update_rule}
 use Rattle.fh_queues.specs.Outcome.{Outcome, outcome, peeked}
 use Rattle.fh_queues.proofs.Ways.{unbroken, unbroken-head}
-use Rattle.fh_hub.specs.World.{Asked, Refuses, Reads, Asks, where_named, peeking, asked}
+use Rattle.fh_hub.specs.World.{Asked, Refuses, Asks, where_named, peeking, asked}
 use Rattle.fh_hub.proofs.Sizes.{HasNarrowTexts}
 
 -- what was asked had a good name

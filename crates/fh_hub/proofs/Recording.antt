@@ -1,6 +1,6 @@
 -- A step that is recorded, put together from what the queues answer.
-use Rattle.std.proofs.Common.{◌≡◌, ℕ, ◌+◌, ◌<◌, ◌≤◌, Bool, true, false, List, length, refl, sym, ◌∙◌, ap, arith, Ok}
-use Rattle.std.specs.Prelude.{max, nat_le, nat_lt, if◌then◌else◌, Option, Some, None, Result}
+use Rattle.std.proofs.Common.{◌≡◌, ℕ, ◌+◌, ◌≤◌, Bool, true, false, length, refl, arith, Ok}
+use Rattle.std.specs.Prelude.{nat_le, nat_lt, if◌then◌else◌, Some, None, Result}
 use Rattle.std.proofs.lemmas.Bool.Decides.{nat_tests}
 use Rattle.fh_base.specs.Moments.{greatest_moment}
 use Rattle.fh_base.specs.declared.rule.Rule.{Rule}
@@ -8,7 +8,7 @@ use Rattle.fh_event.specs.declared.command.Command.{Command}
 use Rattle.fh_event.specs.Entries.{entry}
 use Rattle.fh_queues.specs.Asks.{Ask}
 use Rattle.fh_queues.specs.Outcome.{Outcome, outcome, is_quiet}
-use Rattle.fh_hub.specs.World.{World, Recorded, Asks, asked, joined, recorded, world_with, reply_of, most_bytes, step, step_at, effective_moment}
+use Rattle.fh_hub.specs.World.{World, Recorded, Asks, asked, joined, world_with, reply_of, most_bytes, step, step_at, effective_moment}
 
 -- a command that acts at its own moment
 pub step_is_at : (w : World) (command : Command) (m : ℕ) → m ≤ greatest_moment → w.last ≤ m → step w command m ≡ step_at w command m

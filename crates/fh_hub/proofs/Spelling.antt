@@ -1,5 +1,5 @@
 -- The entry that bytes spell.
-use Rattle.std.proofs.Common.{◌≡◌, ℕ, List, refl, sym, ap, ◌∙◌}
+use Rattle.std.proofs.Common.{◌≡◌, ℕ, List, sym, ap, ◌∙◌}
 use Rattle.fh_event.specs.Entries.{IsEntry}
 use Rattle.fh_event.proofs.EntryLaws.{read_again}
 use Rattle.fh_hub.specs.Replay.{Entry, bytes_of}

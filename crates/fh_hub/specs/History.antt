@@ -1,5 +1,5 @@
 -- Entries, as the bytes that a history keeps.
-use Rattle.std.specs.Prelude.{◌≡◌, ℕ, List, map, Result, Ok, Err}
+use Rattle.std.specs.Prelude.{◌≡◌, ℕ, List, Result, Ok, Err}
 use Rattle.fh_event.specs.declared.command.Command.{Command}
 use Rattle.fh_event.specs.declared.command.Command.TheVariants.{Locate}
 use Rattle.fh_event.specs.declared.faults.EventFault.{EventFault}

@@ -1,14 +1,17 @@
 -- What a hub's step answers, and what it does to the journal.
-use Rattle.std.specs.Prelude.{◌≡◌, ◌⊎◌, ⊤, ℕ, Bool, true, false, List, [], ◌∷◌, ◌++◌, Option, Result, Ok, Err}
+use Rattle.std.specs.Prelude.{◌≡◌, ◌⊎◌, ⊤, ℕ, Bool, true, false, List, [], ◌∷◌, ◌++◌, Option, IfSome, Result, Ok, Err}
 use Rattle.fh_base.specs.Faults.{Rose}
 use Rattle.fh_base.specs.declared.rule.Rule.{Rule}
-use Rattle.fh_event.specs.declared.faults.PlanFault.{PlanFault}
 use Rattle.fh_event.specs.declared.faults.StepFault.{StepFault}
 use Rattle.fh_event.specs.declared.faults.StepFault.TheVariants.{Rule as OfRule, NoMemory, DiskFault}
 use Rattle.fh_event.specs.declared.reply.Reply.{Reply}
 use Rattle.fh_journal.specs.Journal.{IsJournalOf}
 use Rattle.fh_journal.specs.Keeping.{Keeps}
 use Rattle.fh_hub.specs.World.{Stepped, Refused, Read, Quieted, Recorded}
+use Rattle.fh_disk.specs.Disk.{OnlyTold}
+use Rattle.fh_disk.specs.Moments.{LeavesOnly}
+use Rattle.fh_disk.specs.declared.disk.Disk.{Ghosts}
+use Rattle.fh_hub.specs.declared.hub.Hub.{Hub}
 use Rattle.fh_hub.specs.Replay.{Entry, bytes_of, payloads_of, IsLegal}
 
 -- the machine's answer: a reply or a rule
@@ -54,3 +57,21 @@ abbrev pub MayStandFor : Bool → List Entry → Entry → List Entry → List �
 MayStandFor torn history failed entries file =
     StandsForHistory history file ⊎ StandsForHistory (history ++ entries) file
     ⊎ ((torn ≡ true) × StandsForHistory (history ++ failed ∷ []) file)
+
+-- where its disk tells, a hub keeps its history, and where it is torn perhaps this failed entry behind it
+abbrev pub KeepsIn : {D : Type 0} {J : Ghosts D} → Hub D J → Entry → Type 0
+KeepsIn {D} {J} hub failed =
+    KeepsHistory (J.told hub.journal.disk.now) (J.may_leave hub.journal.disk.now) hub.journal.torn hub.state.history failed hub.journal.gate
+
+-- where its disk tells, a crash leaves what reads give and nothing else
+abbrev pub IsDurable : {D : Type 0} {J : Ghosts D} → Hub D J → Type 0
+IsDurable {D} {J} hub = OnlyTold (J.told hub.journal.disk.now) (J.may_leave hub.journal.disk.now)
+
+-- where its disk tells, a crash at any moment since the old one leaves a file that has P
+abbrev pub LeavesSince : {D : Type 0} {J : Ghosts D} → Hub D J → Hub D J → (List ℕ → Type 0) → Type 0
+LeavesSince {D} {J} old new P =
+    IfSome (J.told old.journal.disk.now) (λ _. LeavesOnly J.moment J.left_since old.journal.disk.now new.journal.disk.now P)
+
+-- how often a call on its disk has failed
+abbrev pub faults_of : {D : Type 0} {J : Ghosts D} → Hub D J → ℕ
+faults_of {D} {J} hub = J.disk_faults hub.journal.disk.now

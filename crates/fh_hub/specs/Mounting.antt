@@ -1,6 +1,5 @@
 -- How mounting ends, and which entries are refused.
-use Rattle.std.specs.Prelude.{◌≡◌, ◌⊎◌, ⊤, ℕ, List, ◌∷◌, ◌++◌, length, Option, Some, None, Result, Ok, Err}
-use Rattle.fh_event.specs.declared.faults.EventFault.{EventFault}
+use Rattle.std.specs.Prelude.{◌≡◌, ⊤, ℕ, List, ◌∷◌, ◌++◌, length, Option, Some, None, Ok, Err}
 use Rattle.fh_event.specs.declared.faults.PlanFault.{PlanFault}
 use Rattle.fh_event.specs.declared.faults.PlanFault.TheVariants as plans
 use Rattle.fh_event.specs.Reading.{entry_read}

@@ -4,8 +4,7 @@ use Rattle.fh_event.specs.declared.faults.PlanFault.{PlanFault}
 use Rattle.fh_event.specs.declared.faults.PlanFault.TheVariants.{Rule as OfRule, NoMemory}
 use Rattle.fh_event.specs.declared.command.Command.{Command}
 use Rattle.fh_queues.specs.Edits as queue_edits
-use Rattle.fh_queues.specs.Outcome.{Outcome}
-use Rattle.fh_hub.specs.World.{Stepped, Refused, Read, Quieted, Recorded, step, world_with, reply_of, effective_moment}
+use Rattle.fh_hub.specs.World.{Stepped, Refused, Read, Quieted, Recorded, world_with, reply_of, effective_moment}
 use Rattle.fh_hub.specs.Replay.{Entry}
 use Rattle.fh_hub.specs.History.{entry_of}
 use Rattle.fh_hub.specs.State.{HubState, world_of, IsPlanned}

@@ -1,7 +1,6 @@
 -- What a hub keeps in memory, and the changes that it makes.
 use Rattle.std.specs.Prelude.{◌≡◌, ℕ, ◌+◌, ◌*◌, ◌≤◌, List, length}
 use Rattle.fh_base.specs.Moments.{greatest_moment}
-use Rattle.fh_event.specs.declared.reply.Reply.{Reply}
 use Rattle.fh_event.specs.Entries.{IsEntry}
 use Rattle.fh_journal.specs.Journal.{opened}
 use Rattle.fh_queues.specs.Edits as queue_edits

@@ -1,18 +1,6 @@
 // The hub over a journal.
-ghost use Rattle.std.specs.Prelude.{◌≡◌, ◌⊎◌, ◌≤◌, ◌∷◌, ◌++◌, [], true, false, List, None, Some, IfOk, IfErr, OnOk, OnErr, IfSome, MatchResult};
-ghost use Rattle.fh_base.specs.Faults.{Rose};
-ghost use Rattle.fh_disk.specs.Disk.{OnlyTold};
-ghost use Rattle.fh_disk.specs.Moments.{LeavesOnly};
-ghost use Rattle.fh_journal.specs.Keeping.{Keeps, StaysTold};
-ghost use Rattle.fh_journal.specs.Mounting.{IsBeingMade};
-ghost use Rattle.fh_queues.specs.Edits.{planned as planned_queues};
-ghost use Rattle.fh_queues.specs.Places.{place_of};
-ghost use Rattle.fh_hub.specs.World.{Recorded, step, effective_moment};
-ghost use Rattle.fh_hub.specs.Replay.{Entry, payloads_of, world_after, noted};
-ghost use Rattle.fh_hub.specs.State.{world_of, IsFaithful, IsIdle, IsPlanned, IsUnchanged};
-ghost use Rattle.fh_hub.specs.Plans.{entry_at};
-ghost use Rattle.fh_hub.specs.Hub.{Answers, HasStepCause, KeepsHistory, MayStandFor, StandsForHistory, is_recorded};
-ghost use Rattle.fh_hub.specs.Mounting.{MountsHistory};
+ghost use Rattle.std.specs.Prelude.{◌≡◌};
+ghost use Rattle.fh_hub.specs.State.{IsIdle};
 
 use crate::faults::HubFault;
 use crate::history::History;
@@ -35,6 +23,21 @@ pub struct Hub<'d, J: Disk> {
 }
 
 impl<'d, J: Disk> Hub<'d, J> {
+    ghost use Rattle.std.specs.Prelude.{◌≡◌, ◌⊎◌, ◌≤◌, ◌∷◌, ◌++◌, [], true, false, List, None, Some, IfOk, IfErr, OnOk, OnErr, IfSome, MatchResult};
+    ghost use Rattle.fh_base.specs.Faults.{Rose};
+    ghost use Rattle.fh_disk.specs.Disk.{OnlyTold};
+    ghost use Rattle.fh_disk.specs.Moments.{LeavesOnly};
+    ghost use Rattle.fh_journal.specs.Keeping.{Keeps};
+    ghost use Rattle.fh_journal.specs.Mounting.{IsBeingMade};
+    ghost use Rattle.fh_queues.specs.Edits.{planned as planned_queues};
+    ghost use Rattle.fh_queues.specs.Places.{place_of};
+    ghost use Rattle.fh_hub.specs.World.{Recorded, step, effective_moment};
+    ghost use Rattle.fh_hub.specs.Replay.{Entry, payloads_of, world_after, noted};
+    ghost use Rattle.fh_hub.specs.State.{world_of, IsFaithful, IsIdle, IsPlanned, IsUnchanged};
+    ghost use Rattle.fh_hub.specs.Plans.{entry_at};
+    ghost use Rattle.fh_hub.specs.Hub.{Answers, HasStepCause, IsDurable, KeepsIn, LeavesSince, MayStandFor, StandsForHistory, faults_of, is_recorded};
+    ghost use Rattle.fh_hub.specs.Mounting.{MountsHistory};
+
     /// The hub over a disk whose journal was prepared. Takes no memory.
     pub fn over(alloc: Global, disk: &'d mut J, state: State) -> Hub<'d, J>
         requires { IsIdle state }
@@ -109,29 +112,22 @@ impl<'d, J: Disk> Hub<'d, J> {
 
     /// Makes one step at a moment in milliseconds. All memory is taken before the first call on the disk; a
     /// step that isn't recorded makes none. After any fault the world and the history are as before.
-    #[tactic(auto, using(crate::proofs::Crashes::stays_as_told))]
     pub fn step(&mut self, alloc: Global, command: &Command, now: u64) -> Result<Reply, StepFault>
-        ensures answers { Answers result (step (world_of self.old.state) command.now now)
-            (J.disk_faults self.old.journal.disk.now) (J.disk_faults self.new.journal.disk.now) }
+        ensures answers { Answers result (step (world_of self.old.state) command.now now) (faults_of self.old) (faults_of self.new) }
         ensures world { OnOk result (world_of self.new.state
             ≡ world_after (world_of self.old.state) (step (world_of self.old.state) command.now now)) }
         ensures history { OnOk result (self.new.state.history ≡ self.old.state.history ++ noted (world_of self.old.state) command.now now) }
         ensures fault { OnErr result (IsUnchanged self.old.state self.new.state) }
         ensures untouched { is_recorded (step (world_of self.old.state) command.now now) ≡ false
             → (self.new.journal.disk.now ≡ self.old.journal.disk.now) × (self.new.journal.torn ≡ self.old.journal.torn) }
-        ensures keeps { (failed : Entry)
-            → KeepsHistory (J.told self.old.journal.disk.now) (J.may_leave self.old.journal.disk.now) self.old.journal.torn self.old.state.history failed self.old.journal.gate
-            → KeepsHistory (J.told self.new.journal.disk.now) (J.may_leave self.new.journal.disk.now) self.new.journal.torn self.new.state.history failed self.new.journal.gate
-            ⊎ KeepsHistory (J.told self.new.journal.disk.now) (J.may_leave self.new.journal.disk.now) self.new.journal.torn self.new.state.history (entry_at self.old.state command.now now) self.new.journal.gate }
-        ensures durable { is_recorded (step (world_of self.old.state) command.now now) ≡ true
-            → OnOk result (OnlyTold (J.told self.new.journal.disk.now) (J.may_leave self.new.journal.disk.now)) }
+        ensures keeps { (failed : Entry) → KeepsIn self.old failed
+            → KeepsIn self.new failed ⊎ KeepsIn self.new (entry_at self.old.state command.now now) }
+        ensures durable { is_recorded (step (world_of self.old.state) command.now now) ≡ true → OnOk result (IsDurable self.new) }
+        ensures mended { is_recorded (step (world_of self.old.state) command.now now) ≡ true → OnOk result (self.new.journal.torn ≡ false) }
         ensures whole { OnOk result (self.old.journal.torn ≡ false → self.new.journal.torn ≡ false) }
-        ensures told { StaysTold (J.told self.old.journal.disk.now) (J.told self.new.journal.disk.now) }
-        ensures any_moment { (failed : Entry)
-            → KeepsHistory (J.told self.old.journal.disk.now) (J.may_leave self.old.journal.disk.now) self.old.journal.torn self.old.state.history failed self.old.journal.gate
-            → IfSome (J.told self.old.journal.disk.now) (λ _. LeavesOnly J.moment J.left_since self.old.journal.disk.now self.new.journal.disk.now
-            (MayStandFor self.old.journal.torn self.old.state.history failed (noted (world_of self.old.state) command.now now))) }
-        ensures count { J.disk_faults self.old.journal.disk.now ≤ J.disk_faults self.new.journal.disk.now }
+        ensures any_moment { (failed : Entry) → KeepsIn self.old failed → LeavesSince self.old self.new
+            (MayStandFor self.old.journal.torn self.old.state.history failed (noted (world_of self.old.state) command.now now)) }
+        ensures count { faults_of self.old ≤ faults_of self.new }
         ensures same { self.new.journal.disk.ghost_name ≡ self.old.journal.disk.ghost_name }
     {
         match self.state.plan(alloc, command, now)? {
@@ -141,7 +137,6 @@ impl<'d, J: Disk> Hub<'d, J> {
     }
 
     // Records a change: it is staged, its entry is appended, and then it is settled.
-    #[tactic(auto, using(crate::proofs::Crashes::stays_as_told))]
     fn record(&mut self, change: Change) -> Result<Reply, StepFault>
         ghost e: { Entry }
         requires planned { IsPlanned self.old.state (planned_queues self.old.state.queues.part change.queues) change.payload e }
@@ -149,19 +144,13 @@ impl<'d, J: Disk> Hub<'d, J> {
         ensures reply { IfOk result (λ reply. step (world_of self.old.state) e.command e.moment ≡ Recorded (world_of self.new.state) reply) }
         ensures history { OnOk result (self.new.state.history ≡ self.old.state.history ++ e ∷ []) }
         ensures fault { OnErr result (IsUnchanged self.old.state self.new.state) }
-        ensures cause { IfErr result (HasStepCause (J.disk_faults self.old.journal.disk.now) (J.disk_faults self.new.journal.disk.now)) }
-        ensures keeps { (failed : Entry)
-            → KeepsHistory (J.told self.old.journal.disk.now) (J.may_leave self.old.journal.disk.now) self.old.journal.torn self.old.state.history failed self.old.journal.gate
-            → KeepsHistory (J.told self.new.journal.disk.now) (J.may_leave self.new.journal.disk.now) self.new.journal.torn self.new.state.history failed self.new.journal.gate
-            ⊎ KeepsHistory (J.told self.new.journal.disk.now) (J.may_leave self.new.journal.disk.now) self.new.journal.torn self.new.state.history e self.new.journal.gate }
-        ensures durable { OnOk result (OnlyTold (J.told self.new.journal.disk.now) (J.may_leave self.new.journal.disk.now)) }
+        ensures cause { IfErr result (HasStepCause (faults_of self.old) (faults_of self.new)) }
+        ensures keeps { (failed : Entry) → KeepsIn self.old failed → KeepsIn self.new failed ⊎ KeepsIn self.new e }
+        ensures durable { OnOk result (IsDurable self.new) }
         ensures whole { OnOk result (self.new.journal.torn ≡ false) }
-        ensures told { StaysTold (J.told self.old.journal.disk.now) (J.told self.new.journal.disk.now) }
-        ensures any_moment { (failed : Entry)
-            → KeepsHistory (J.told self.old.journal.disk.now) (J.may_leave self.old.journal.disk.now) self.old.journal.torn self.old.state.history failed self.old.journal.gate
-            → IfSome (J.told self.old.journal.disk.now) (λ _. LeavesOnly J.moment J.left_since self.old.journal.disk.now self.new.journal.disk.now
-            (MayStandFor self.old.journal.torn self.old.state.history failed (e ∷ []))) }
-        ensures count { J.disk_faults self.old.journal.disk.now ≤ J.disk_faults self.new.journal.disk.now }
+        ensures any_moment { (failed : Entry) → KeepsIn self.old failed
+            → LeavesSince self.old self.new (MayStandFor self.old.journal.torn self.old.state.history failed (e ∷ [])) }
+        ensures count { faults_of self.old ≤ faults_of self.new }
         ensures same { self.new.journal.disk.ghost_name ≡ self.old.journal.disk.ghost_name }
     {
         let staged = self.state.stage(change)?;

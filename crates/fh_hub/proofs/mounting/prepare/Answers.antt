@@ -1,7 +1,4 @@
-use Rattle.std.proofs.Common.{rules, ◌≡◌, arith, [], false}
-use Rattle.std.proofs.lemmas.Grind.{common_steps}
-use Rattle.fh_journal.specs.Frames.{payloads_of as payloads_in}
-use Rattle.fh_journal.specs.Keeping.{Keeps}
+use Rattle.std.proofs.Common.{rules}
 use Rattle.fh_hub.specs.Replay.{payloads_of}
 use Rattle.fh_hub.proofs.Mounted.{refused_mount}
 use Rattle.fh_hub.proofs.mounting.prepare.Goals as goal

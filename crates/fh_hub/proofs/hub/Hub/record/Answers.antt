@@ -1,4 +1,4 @@
-use Rattle.std.proofs.Common.{rules, ◌≡◌, ◌++◌, ◌∷◌, [], inl, inr, arith, refl, sym, ap, subst, ◌∙◌, false, ℕ, List}
+use Rattle.std.proofs.Common.{◌≡◌, ◌++◌, ◌∷◌, [], inl, arith, ℕ, List}
 use Rattle.std.proofs.lemmas.Grind.{common_steps}
 use Rattle.fh_hub.specs.Hub.{KeepsHistory}
 use Rattle.fh_hub.specs.Replay.{Entry, bytes_of, payloads_of}

@@ -1,4 +1,3 @@
-use Rattle.std.proofs.Common.{rules, ◌≡◌, arith}
 use Rattle.fh_hub.specs.Replay.{noted}
 use Rattle.fh_hub.specs.State.{world_of}
 use Rattle.fh_hub.proofs.Crashes.{untouched}

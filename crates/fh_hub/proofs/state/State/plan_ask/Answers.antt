@@ -1,12 +1,11 @@
-use Rattle.std.proofs.Common.{rules, ◌≡◌, ◌+◌, ◌≤◌, ◌∙◌, arith, refl, sym, ap, subst, length, false, Ok, ℕ, List}
+use Rattle.std.proofs.Common.{rules, ◌≡◌, ◌+◌, ◌≤◌, ◌∙◌, arith, refl, subst, length, false, Ok, ℕ, List}
 use Rattle.std.proofs.lemmas.Grind.{common_steps}
-use Rattle.fh_base.specs.Moments.{greatest_moment}
 use Rattle.fh_event.specs.Entries.{entry, IsEntry}
 use Rattle.fh_queues.specs.Asks.{ask_of}
 use Rattle.fh_queues.specs.Edits.{planned}
 use Rattle.fh_queues.specs.Outcome.{Outcome, outcome, is_quiet}
 use Rattle.fh_queues.specs.Part.{QueuePart}
-use Rattle.fh_hub.specs.World.{World, Recorded, joined, world_with, reply_of, most_bytes, step, step_at}
+use Rattle.fh_hub.specs.World.{World, Recorded, joined, world_with, reply_of, most_bytes}
 use Rattle.fh_hub.specs.State.{world_of}
 use Rattle.fh_hub.proofs.Spelling.{entry_is}
 use Rattle.fh_hub.proofs.Narrow.{narrow_texts}

@@ -1,5 +1,4 @@
-use Rattle.std.proofs.Common.{rules, ◌≡◌, arith}
-use Rattle.std.proofs.lemmas.Grind.{common_steps}
+use Rattle.std.proofs.Common.{rules}
 use Rattle.fh_hub.proofs.Mounted.{frame_refused}
 use Rattle.fh_hub.proofs.state.State.replay.Goals as goal
 

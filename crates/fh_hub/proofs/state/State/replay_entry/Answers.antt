@@ -1,4 +1,4 @@
-use Rattle.std.proofs.Common.{rules, ◌≡◌}
+use Rattle.std.proofs.Common.{rules}
 use Rattle.fh_hub.proofs.Mounted.{refused_entry}
 use Rattle.fh_hub.proofs.state.State.replay_entry.Goals as goal
 

@@ -1,4 +1,4 @@
-use Rattle.std.proofs.Common.{rules, ◌≡◌, ◌+◌, ◌*◌, ◌≤◌, ◌∙◌, ◌++◌, ◌∷◌, [], arith, refl, sym, ap, subst, length, Ok, ℕ, List}
+use Rattle.std.proofs.Common.{◌≡◌, ◌+◌, ◌∙◌, ◌++◌, ◌∷◌, [], arith, sym, ap, subst, length, ℕ, List}
 use Rattle.std.proofs.lemmas.Grind.{common_steps}
 use Rattle.fh_queues.proofs.Numbers.{Numbers-outcome}
 use Rattle.fh_journal.specs.Journal.{opened}
@@ -8,7 +8,6 @@ use Rattle.fh_queues.specs.Part.{QueuePart}
 use Rattle.fh_hub.specs.World.{World, step, Recorded, world_with, reply_of}
 use Rattle.fh_hub.specs.Replay.{Entry, replay, IsLegal, IsNext, payloads_of}
 use Rattle.fh_hub.specs.State.{HubState, world_of, IsPlanned}
-use Rattle.fh_hub.specs.History.{entry_of}
 use Rattle.fh_hub.proofs.Replays.{world_push, legal_push, payloads_push, gate_push}
 use Rattle.fh_hub.proofs.Spelling.{is_spelled, entry_is}
 use Rattle.fh_hub.proofs.state.State.settle.Goals as goal

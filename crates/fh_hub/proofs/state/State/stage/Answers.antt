@@ -1,7 +1,6 @@
-use Rattle.std.proofs.Common.{rules, ◌≡◌, sym, subst, arith}
-use Rattle.std.proofs.lemmas.Grind.{common_steps}
+use Rattle.std.proofs.Common.{rules, subst}
 use Rattle.fh_queues.specs.Edits.{planned}
-use Rattle.fh_hub.specs.State.{HubState, IsFaithful, IsPlanned}
+use Rattle.fh_hub.specs.State.{IsFaithful}
 use Rattle.fh_hub.proofs.Replays.{legal_planned}
 use Rattle.fh_hub.proofs.state.State.stage.Goals as goal
 
