@@ -6,6 +6,7 @@ use Rattle.std.specs.Io.KnownBytes.{Appends, Consumes, IsAtEnd}
 use Rattle.std.specs.declared.string.String.{String}
 use Rattle.std.specs.declared.alloc.Global.{Global}
 use Rattle.fh_base.specs.Faults.{Rose}
+use Rattle.fh_disk.specs.Moments.{LeavesOnly}
 use Rattle.fh_journal.specs.Mounting.{IsBeingMade}
 use Rattle.fh_hub.specs.Hub.{StandsForHistory}
 use Rattle.fh_hub.specs.Mounting.{MountsHistory}
@@ -33,6 +34,16 @@ pub record Outside : Type 0 where
   pub told : Option (List ℕ)
   pub disk_faults : ℕ
 
+abbrev pub outside : Option (List ℕ) → ℕ → Option (List ℕ) → ℕ → Option (List ℕ) → ℕ → Outside
+outside left read_faults written write_faults told disk_faults = record {
+  left = left;
+  read_faults = read_faults;
+  written = written;
+  write_faults = write_faults;
+  told = told;
+  disk_faults = disk_faults;
+}
+
 -- where a source tells, these are its lines
 abbrev pub HasLines : Option (List ℕ) → List (List ℕ) → Type 0
 HasLines None all = ⊤
@@ -51,6 +62,15 @@ pub record StandsForPart (opening history : List Entry) (file : List ℕ) : Type
 -- that each image of a disk at any moment since a run began is one that it had then, or has some property
 abbrev pub Imaging : Type 1
 Imaging = (List ℕ → Type 0) → Type 0
+
+-- that of a disk
+abbrev pub imaging : {D : Type 0} → (D → Option (List ℕ)) → (D → List ℕ → Type 0) → (D → ℕ) → (D → ℕ → List ℕ → Type 0) → D → D → Imaging
+imaging told may_leave moment left_since old new P =
+    IfSome (told old) (λ _. LeavesOnly moment left_since old new (λ c. may_leave old c ⊎ P c))
+
+-- the same where each image at the beginning has the property too
+abbrev pub imaging_lines : {D : Type 0} → (D → Option (List ℕ)) → (D → ℕ) → (D → ℕ → List ℕ → Type 0) → D → D → Imaging
+imaging_lines told moment left_since old new P = IfSome (told old) (λ _. LeavesOnly moment left_since old new P)
 
 -- the bytes of these lines
 abbrev pub joined : List (List ℕ) → List ℕ
