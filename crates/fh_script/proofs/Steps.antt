@@ -1,5 +1,5 @@
 -- What a step leaves of a journal that stands for a history.
-use Rattle.std.proofs.Common.{◌≡◌, ◌⊎◌, inl, inr, ⊎_elim, ℕ, Bool, true, false, List, [], ◌∷◌, ◌++◌, Option, Some, None, IfSome, refl, sym, subst, append-nil}
+use Rattle.std.proofs.Common.{◌≡◌, ◌⊎◌, inl, inr, ℕ, Bool, true, false, List, [], ◌∷◌, ◌++◌, Option, Some, None, IfSome, refl, sym, subst}
 use Rattle.fh_disk.specs.Moments.{LeavesOnly}
 use Rattle.fh_event.specs.declared.command.Command.{Command}
 use Rattle.fh_journal.specs.Keeping.{Keeps, StaysTold}

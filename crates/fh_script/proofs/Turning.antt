@@ -10,10 +10,10 @@ use Rattle.fh_base.proofs.Appending.{appends-append}
 use Rattle.fh_hub.specs.World.{World}
 use Rattle.fh_hub.specs.Hub.{StandsForHistory}
 use Rattle.fh_hub.specs.Replay.{Entry, IsLegal, replay}
-use Rattle.fh_script.specs.Lines.{is_line_feed, before_lines, lines, line_length, line_feeds, is_ended, ReadsLine, StartsLong, HasLineReason}
+use Rattle.fh_script.specs.Lines.{is_line_feed, before_lines, lines, line_length, line_feeds, ReadsLine, StartsLong, HasLineReason}
 use Rattle.fh_script.specs.Machine.{answer_line, after_line, opening_in, printed, run}
 use Rattle.fh_script.specs.Session.{HasStopCause, StandsEither}
-use Rattle.fh_script.specs.Script.{Outside, Imaging, StandsForPart, HasLines, is_short_line, joined, Wrote, Answered, AnsweredAll, AnsweredBefore, CutOff, IsLongNext, HasLinesReason}
+use Rattle.fh_script.specs.Script.{Outside, Imaging, StandsForPart, HasLines, is_short_line, joined, Wrote, Answered, AnsweredBefore, IsLongNext, HasLinesReason}
 use Rattle.fh_script.specs.declared.ends.End.{End}
 use Rattle.fh_script.specs.declared.ends.End.TheVariants.{Finished, Usage, BadHeader, BadFrame, ReadFault, DiskFault, WriteFault, LongLine, NoMemory}
 use Rattle.fh_script.proofs.LineReading.{consumes-append, line_feeds-append}

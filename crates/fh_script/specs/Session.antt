@@ -1,5 +1,5 @@
 -- What a line does to a run over a journal.
-use Rattle.std.specs.Prelude.{◌≡◌, ◌⊎◌, ⊤, ℕ, List, [], ◌++◌, Option, IfSome, false}
+use Rattle.std.specs.Prelude.{◌⊎◌, ⊤, ℕ, List, [], ◌++◌, Option, IfSome, false}
 use Rattle.fh_base.specs.Faults.{Rose}
 use Rattle.fh_disk.specs.declared.disk.Disk.{Ghosts}
 use Rattle.fh_journal.specs.Keeping.{Keeps, StaysTold}

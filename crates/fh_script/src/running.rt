@@ -1,11 +1,10 @@
 // The top call of the script.
-ghost use Rattle.std.specs.Prelude.{◌≡◌, ◌⊎◌, ◌≤◌, ◌==◌, [], true, false, not, length, take, ℕ, IfSome};
-ghost use Rattle.fh_disk.specs.Moments.{LeavesOnly};
+ghost use Rattle.std.specs.Prelude.{◌≡◌, ◌≤◌, ◌==◌, [], false, not};
 ghost use Rattle.fh_script.specs.Ends.{code_of, last_line};
 ghost use Rattle.fh_hub.specs.State.{world_of};
 ghost use Rattle.fh_hub.specs.Replay.{replay, IsLegal};
-ghost use Rattle.fh_script.specs.Script.{is_script, HasLinesReason, HasReason, EndsBy, IsOfLines, outside, imaging, imaging_lines};
-ghost use Rattle.fh_script.specs.Session.{Holds};
+ghost use Rattle.fh_script.specs.Script.{EndsBy, HasLinesReason, HasReason, IsOfLines, imaging, imaging_lines, is_script, outside};
+ghost use Rattle.fh_script.specs.Session.{HoldsIn};
 ghost use Rattle.fh_script.specs.Concluding.{Concludes};
 
 use crate::End;
@@ -67,7 +66,8 @@ fn is_script(words: &[String]) -> bool
 fn conclude<O: Sink>(sink: &mut O, end: End, line: &str) -> Status
     requires { line.now ≡ last_line end }
     ensures status { result.code ≡ code_of end }
-    ensures written { Concludes (O.written sink.old) (O.written sink.new) (last_line end) (O.write_faults sink.old) (O.write_faults sink.new) }
+    ensures written { Concludes (O.written sink.old) (O.written sink.new) (last_line end)
+        (O.write_faults sink.old) (O.write_faults sink.new) }
     ensures count { O.write_faults sink.old ≤ O.write_faults sink.new }
 {
     // The status stays where its line can't be written.
@@ -114,14 +114,14 @@ fn answer_lines<S: Source, O: Sink, J: Disk>(
     requires world { world_of session.old.hub.state ≡ replay session.old.hub.state.history }
     requires legal { IsLegal session.old.hub.state.history }
     requires whole { session.old.hub.journal.torn ≡ false }
-    requires holds { Holds (J.told session.old.hub.journal.disk.now) (J.may_leave session.old.hub.journal.disk.now)
-        session.old.hub.state.history session.old.hub.journal.gate }
+    requires holds { HoldsIn session.old.hub }
     ensures reason { HasLinesReason
         (outside (S.left source.old) (S.read_faults source.old) (O.written sink.old) (O.write_faults sink.old)
         (J.told session.old.hub.journal.disk.now) (J.disk_faults session.old.hub.journal.disk.now))
         (outside (S.left source.new) (S.read_faults source.new) (O.written sink.new) (O.write_faults sink.new)
         (J.told session.new.hub.journal.disk.now) (J.disk_faults session.new.hub.journal.disk.now))
-        (imaging_lines J.told J.moment J.left_since session.old.hub.journal.disk.now session.new.hub.journal.disk.now)
+        (imaging_lines J.told J.moment J.left_since
+        session.old.hub.journal.disk.now session.new.hub.journal.disk.now)
         [] result }
     ensures mounted { IsOfLines result }
     ensures writes { O.write_faults sink.old ≤ O.write_faults sink.new }

@@ -1,4 +1,4 @@
-use Rattle.std.proofs.Common.{◌∙◌, List, IfSome, refl, sym, subst, arith, rules}
+use Rattle.std.proofs.Common.{◌∙◌, List, IfSome, refl, sym, subst, arith}
 use Rattle.fh_disk.specs.Moments.{LeavesOnly}
 use Rattle.fh_journal.proofs.Moments.{stays_told}
 use Rattle.fh_hub.specs.Replay.{Entry}
