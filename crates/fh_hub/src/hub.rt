@@ -27,7 +27,7 @@ impl<'d, J: Disk> Hub<'d, J> {
     ghost use Rattle.fh_base.specs.Faults.{Rose};
     ghost use Rattle.fh_disk.specs.Disk.{OnlyTold};
     ghost use Rattle.fh_disk.specs.Moments.{LeavesOnly};
-    ghost use Rattle.fh_journal.specs.Keeping.{Keeps};
+    ghost use Rattle.fh_journal.specs.Keeping.{Keeps, StaysTold};
     ghost use Rattle.fh_journal.specs.Mounting.{IsBeingMade};
     ghost use Rattle.fh_queues.specs.Edits.{planned as planned_queues};
     ghost use Rattle.fh_queues.specs.Places.{place_of};
@@ -112,6 +112,7 @@ impl<'d, J: Disk> Hub<'d, J> {
 
     /// Makes one step at a moment in milliseconds. All memory is taken before the first call on the disk; a
     /// step that isn't recorded makes none. After any fault the world and the history are as before.
+    #[tactic(auto, using(crate::proofs::Crashes::stays_as_told))]
     pub fn step(&mut self, alloc: Global, command: &Command, now: u64) -> Result<Reply, StepFault>
         ensures answers { Answers result (step (world_of self.old.state) command.now now) (faults_of self.old) (faults_of self.new) }
         ensures world { OnOk result (world_of self.new.state
@@ -125,6 +126,7 @@ impl<'d, J: Disk> Hub<'d, J> {
         ensures durable { is_recorded (step (world_of self.old.state) command.now now) ≡ true → OnOk result (IsDurable self.new) }
         ensures mended { is_recorded (step (world_of self.old.state) command.now now) ≡ true → OnOk result (self.new.journal.torn ≡ false) }
         ensures whole { OnOk result (self.old.journal.torn ≡ false → self.new.journal.torn ≡ false) }
+        ensures told { StaysTold (J.told self.old.journal.disk.now) (J.told self.new.journal.disk.now) }
         ensures any_moment { (failed : Entry) → KeepsIn self.old failed → LeavesSince self.old self.new
             (MayStandFor self.old.journal.torn self.old.state.history failed (noted (world_of self.old.state) command.now now)) }
         ensures count { faults_of self.old ≤ faults_of self.new }
@@ -137,6 +139,7 @@ impl<'d, J: Disk> Hub<'d, J> {
     }
 
     // Records a change: it is staged, its entry is appended, and then it is settled.
+    #[tactic(auto, using(crate::proofs::Crashes::stays_as_told))]
     fn record(&mut self, change: Change) -> Result<Reply, StepFault>
         ghost e: { Entry }
         requires planned { IsPlanned self.old.state (planned_queues self.old.state.queues.part change.queues) change.payload e }
@@ -148,6 +151,7 @@ impl<'d, J: Disk> Hub<'d, J> {
         ensures keeps { (failed : Entry) → KeepsIn self.old failed → KeepsIn self.new failed ⊎ KeepsIn self.new e }
         ensures durable { OnOk result (IsDurable self.new) }
         ensures whole { OnOk result (self.new.journal.torn ≡ false) }
+        ensures told { StaysTold (J.told self.old.journal.disk.now) (J.told self.new.journal.disk.now) }
         ensures any_moment { (failed : Entry) → KeepsIn self.old failed
             → LeavesSince self.old self.new (MayStandFor self.old.journal.torn self.old.state.history failed (e ∷ [])) }
         ensures count { faults_of self.old ≤ faults_of self.new }

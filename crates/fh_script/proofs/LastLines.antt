@@ -9,7 +9,7 @@ use Rattle.fh_hub.specs.declared.faults.HubFault.{HubFault}
 use Rattle.fh_hub.specs.declared.faults.HubFault.TheVariants as mounts
 use Rattle.fh_script.specs.Concluding.{Concludes}
 use Rattle.fh_script.specs.Ends.{code_of, last_line}
-use Rattle.fh_script.specs.Script.{Outside, Wrote, Answered, AnsweredAll, AnsweredBefore, CutOff, Unmounted, HasLinesReason, HasReason, EndsBy}
+use Rattle.fh_script.specs.Script.{Outside, Imaging, Wrote, Answered, AnsweredAll, AnsweredBefore, CutOff, Unmounted, HasLinesReason, HasReason, EndsBy}
 use Rattle.fh_script.specs.declared.ends.End.{End}
 use Rattle.fh_script.specs.declared.ends.End.TheVariants.{Finished, Usage, BadHeader, BadFrame, ReadFault, DiskFault, WriteFault, LongLine, NoMemory}
 
@@ -22,7 +22,7 @@ behind_texts : (was mid now : Option (List ℕ)) (text behind : List ℕ) → Ap
 behind_texts was mid now text behind one two =
     appends-append was mid now text behind (subst (λ (t : List ℕ). Appends was mid t) (append-nil text) one) two
 
-module _ (was mid : Outside) (written : Option (List ℕ)) (faults : ℕ) where
+module _ (was mid : Outside) (leaves : Imaging) (written : Option (List ℕ)) (faults : ℕ) where
   wrote_behind : (opening : List Entry) (done more : List (List ℕ)) (behind : List ℕ) → Wrote was mid opening done more [] → Appends mid.written written behind
       → Wrote was (record mid { written = written; write_faults = faults }) opening done more behind
   wrote_behind opening done more behind it writes = record {
@@ -36,17 +36,18 @@ module _ (was mid : Outside) (written : Option (List ℕ)) (faults : ℕ) where
     texts = behind_texts was.written mid.written written (run opening done).written behind it.texts writes;
   }
 
-  answered_behind : (more : List (List ℕ)) (behind : List ℕ) → Answered was mid more [] → Appends mid.written written behind
-      → Answered was (record mid { written = written; write_faults = faults }) more behind
+  answered_behind : (more : List (List ℕ)) (behind : List ℕ) → Answered was mid leaves more [] → Appends mid.written written behind
+      → Answered was (record mid { written = written; write_faults = faults }) leaves more behind
   answered_behind more behind it writes = record {
     opening = it.opening;
     done = it.done;
     wrote = wrote_behind it.opening it.done more behind it.wrote writes;
     stands = it.stands;
+    images = it.images;
   }
 
-  answered_all_behind : (behind : List ℕ) → AnsweredAll was mid [] → Appends mid.written written behind
-      → AnsweredAll was (record mid { written = written; write_faults = faults }) behind
+  answered_all_behind : (behind : List ℕ) → AnsweredAll was mid leaves [] → Appends mid.written written behind
+      → AnsweredAll was (record mid { written = written; write_faults = faults }) leaves behind
   unfolding answered_behind wrote_behind
   answered_all_behind behind it writes = record {
     more = it.more;
@@ -54,8 +55,8 @@ module _ (was mid : Outside) (written : Option (List ℕ)) (faults : ℕ) where
     feeds = it.feeds;
   }
 
-  answered_before_behind : (behind : List ℕ) → AnsweredBefore was mid [] → Appends mid.written written behind
-      → AnsweredBefore was (record mid { written = written; write_faults = faults }) behind
+  answered_before_behind : (behind : List ℕ) → AnsweredBefore was mid leaves [] → Appends mid.written written behind
+      → AnsweredBefore was (record mid { written = written; write_faults = faults }) leaves behind
   answered_before_behind behind it writes = record {
     opening = it.opening;
     done = it.done;
@@ -63,9 +64,10 @@ module _ (was mid : Outside) (written : Option (List ℕ)) (faults : ℕ) where
     more = it.more;
     wrote = wrote_behind it.opening it.done (it.line ∷ it.more) behind it.wrote writes;
     stands = it.stands;
+    images = it.images;
   }
 
-  cut_off_behind : CutOff was mid → Appends mid.written written [] → CutOff was (record mid { written = written; write_faults = faults })
+  cut_off_behind : CutOff was mid leaves → Appends mid.written written [] → CutOff was (record mid { written = written; write_faults = faults }) leaves
   cut_off_behind it writes = record {
     opening = it.opening;
     done = it.done;
@@ -87,21 +89,23 @@ module _ (was mid : Outside) (written : Option (List ℕ)) (faults : ℕ) where
           (appends-append was.written mid.written written _ [] it.wrote.texts writes);
     };
     stands = it.stands;
+    images = it.images;
   }
 
-  unmounted_behind : (fault : HubFault) (behind : List ℕ) → Unmounted was mid fault [] → Appends mid.written written behind
-      → Unmounted was (record mid { written = written; write_faults = faults }) fault behind
+  unmounted_behind : (fault : HubFault) (behind : List ℕ) → Unmounted was mid leaves fault [] → Appends mid.written written behind
+      → Unmounted was (record mid { written = written; write_faults = faults }) leaves fault behind
   unmounted_behind fault behind it writes = record {
     left = it.left;
     bytes = it.bytes;
+    images = it.images;
     texts = appends-append was.written mid.written written [] behind it.texts writes;
   }
 
   rose_on : (before : ℕ) → mid.write_faults ≤ faults → Rose before mid.write_faults → Rose before faults
   rose_on before later rose = omega (arith, later, rose)
 
-  lines_reason_behind : (end : End) (n : ℕ) → HasLinesReason was mid [] end → mid.write_faults ≤ faults → Appends mid.written written (take n (last_line end))
-      → HasLinesReason was (record mid { written = written; write_faults = faults }) (take n (last_line end)) end
+  lines_reason_behind : (end : End) (n : ℕ) → HasLinesReason was mid leaves [] end → mid.write_faults ≤ faults → Appends mid.written written (take n (last_line end))
+      → HasLinesReason was (record mid { written = written; write_faults = faults }) leaves (take n (last_line end)) end
   lines_reason_behind Finished n reason later writes = (answered_behind [] _ reason.0 writes, reason.1)
   lines_reason_behind Usage n reason later writes = absurd reason
   lines_reason_behind BadHeader n reason later writes = absurd reason
@@ -114,8 +118,8 @@ module _ (was mid : Outside) (written : Option (List ℕ)) (faults : ℕ) where
   lines_reason_behind NoMemory n (inl reason) later writes = inl (reason.0, answered_behind reason.0 _ reason.1 writes)
   lines_reason_behind NoMemory n (inr reason) later writes = inr (answered_before_behind _ reason writes)
 
-  reason_behind : (end : End) (n : ℕ) → HasReason was mid [] end → mid.write_faults ≤ faults → Appends mid.written written (take n (last_line end))
-      → HasReason was (record mid { written = written; write_faults = faults }) (take n (last_line end)) end
+  reason_behind : (end : End) (n : ℕ) → HasReason was mid leaves [] end → mid.write_faults ≤ faults → Appends mid.written written (take n (last_line end))
+      → HasReason was (record mid { written = written; write_faults = faults }) leaves (take n (last_line end)) end
   reason_behind Finished n reason later writes = lines_reason_behind Finished n reason later writes
   reason_behind Usage n reason later writes = (appends-append was.written mid.written written [] _ reason.0 writes, reason.1)
   reason_behind BadHeader n reason later writes = unmounted_behind mounts.BadHeader _ reason writes
@@ -129,9 +133,9 @@ module _ (was mid : Outside) (written : Option (List ℕ)) (faults : ℕ) where
   reason_behind NoMemory n (inr reason) later writes = inr (lines_reason_behind NoMemory n reason later writes)
 
   -- a run that has a reason to end, and then writes its last line
-  pub ends_by : (end : End) (code : ℕ) → code ≡ code_of end → HasReason was mid [] end → was.write_faults ≤ mid.write_faults
+  pub ends_by : (end : End) (code : ℕ) → code ≡ code_of end → HasReason was mid leaves [] end → was.write_faults ≤ mid.write_faults
       → mid.write_faults ≤ faults → Concludes mid.written written (last_line end) mid.write_faults faults
-      → EndsBy was (record mid { written = written; write_faults = faults }) code
+      → EndsBy was (record mid { written = written; write_faults = faults }) leaves code
   ends_by end code status reason before later concludes = record {
     end = end;
     status = status;

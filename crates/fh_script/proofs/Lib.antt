@@ -1,5 +1,6 @@
 pub mod LineReading
 pub mod Steps
+pub mod Imaging
 pub mod Turns
 pub mod Turning
 pub mod Starting

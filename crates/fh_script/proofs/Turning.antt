@@ -10,10 +10,10 @@ use Rattle.fh_base.proofs.Appending.{appends-append}
 use Rattle.fh_hub.specs.World.{World}
 use Rattle.fh_hub.specs.Hub.{StandsForHistory}
 use Rattle.fh_hub.specs.Replay.{Entry, IsLegal, replay}
-use Rattle.fh_script.specs.Lines.{is_line_feed, before_lines, lines, line_length, line_feeds, is_ended, ReadsLine, StartsLong, HasLineReason}
+use Rattle.fh_script.specs.Lines.{is_line_feed, before_lines, lines, line_length, line_feeds, ReadsLine, StartsLong, HasLineReason}
 use Rattle.fh_script.specs.Machine.{answer_line, after_line, opening_in, printed, run}
 use Rattle.fh_script.specs.Session.{HasStopCause, StandsEither}
-use Rattle.fh_script.specs.Script.{Outside, HasLines, is_short_line, joined, Wrote, Answered, AnsweredAll, AnsweredBefore, CutOff, IsLongNext, HasLinesReason}
+use Rattle.fh_script.specs.Script.{Outside, Imaging, StandsForPart, HasLines, is_short_line, joined, Wrote, Answered, AnsweredBefore, IsLongNext, HasLinesReason}
 use Rattle.fh_script.specs.declared.ends.End.{End}
 use Rattle.fh_script.specs.declared.ends.End.TheVariants.{Finished, Usage, BadHeader, BadFrame, ReadFault, DiskFault, WriteFault, LongLine, NoMemory}
 use Rattle.fh_script.proofs.LineReading.{consumes-append, line_feeds-append}
@@ -190,7 +190,7 @@ at_end None now line reads = reads
 at_end (Some a) None line reads = absurd reads
 at_end (Some a) (Some b) line reads = reads.1
 
-module _ (was now : Outside) (opening : List Entry) (legal : IsLegal opening) (stood : IfSome was.told (StandsForHistory opening))
+module _ (was now : Outside) (leaves : Imaging) (opening : List Entry) (legal : IsLegal opening) (stood : IfSome was.told (StandsForHistory opening))
     (left : Option (List ℕ)) (world : World) (moment : ℕ) (history : List Entry) where
   wrote : (it : IsDone opening was.left left was.written now.written world moment history) (taken : List ℕ) → Consumes left now.left taken
       → length taken ≤ 140001 → Wrote was now opening it.done (rest_of left) []
@@ -206,53 +206,54 @@ module _ (was now : Outside) (opening : List Entry) (legal : IsLegal opening) (s
   }
 
   answered : (it : IsDone opening was.left left was.written now.written world moment history) (taken : List ℕ) → Consumes left now.left taken
-      → length taken ≤ 140001 → IfSome now.told (StandsForHistory history) → Answered was now (rest_of left) []
-  answered it taken consumes few stands = record {
+      → length taken ≤ 140001 → IfSome now.told (StandsForHistory history) → leaves (StandsForPart opening history) → Answered was now leaves (rest_of left) []
+  answered it taken consumes few stands images = record {
     opening = opening;
     done = it.done;
     wrote = wrote it taken consumes few;
     stands = subst (λ (h : List Entry). IfSome now.told (StandsForHistory h)) it.grows stands;
+    images = subst (λ (h : List Entry). leaves (StandsForPart opening h)) it.grows images;
   }
 
   -- a run ends where no line was left
   pub finished : (line : List ℕ) → IsDone opening was.left left was.written now.written world moment history → ReadsLine left now.left line false
-      → Consumes left now.left line → length line ≤ 140001 → IfSome now.told (StandsForHistory history) → HasLinesReason was now [] Finished
-  finished line it reads consumes few stands = (
-    subst (λ (more : List (List ℕ)). Answered was now more []) (none_left left now.left line reads) (answered it line consumes few stands),
+      → Consumes left now.left line → length line ≤ 140001 → IfSome now.told (StandsForHistory history) → leaves (StandsForPart opening history) → HasLinesReason was now leaves [] Finished
+  finished line it reads consumes few stands images = (
+    subst (λ (more : List (List ℕ)). Answered was now leaves more []) (none_left left now.left line reads) (answered it line consumes few stands images),
     at_end left now.left line reads,
   )
 
   -- a run ends where no line was read
   pub line_stops : (before : ℕ) (end : End) → IsDone opening was.left left was.written now.written world moment history
-      → HasLineReason left now.left before now.read_faults end → was.read_faults ≤ before → IfSome now.told (StandsForHistory history)
-      → HasLinesReason was now [] end
+      → HasLineReason left now.left before now.read_faults end → was.read_faults ≤ before → IfSome now.told (StandsForHistory history) → leaves (StandsForPart opening history)
+      → HasLinesReason was now leaves [] end
   unfolding answered wrote
-  line_stops before Finished it reason later stands = absurd reason
-  line_stops before Usage it reason later stands = absurd reason
-  line_stops before BadHeader it reason later stands = absurd reason
-  line_stops before (BadFrame at rule) it reason later stands = absurd reason
-  line_stops before ReadFault it reason later stands = (
+  line_stops before Finished it reason later stands images = absurd reason
+  line_stops before Usage it reason later stands images = absurd reason
+  line_stops before BadHeader it reason later stands images = absurd reason
+  line_stops before (BadFrame at rule) it reason later stands images = absurd reason
+  line_stops before ReadFault it reason later stands images = (
     rose_since _ _ _ later reason.0,
     record {
       more = rest_of left;
-      answered = answered it reason.1.taken reason.1.consumed reason.1.few stands;
+      answered = answered it reason.1.taken reason.1.consumed reason.1.few stands images;
       feeds = feeds_part it.done reason.1.taken it.feeds reason.1.part;
     },
   )
-  line_stops before DiskFault it reason later stands = absurd reason
-  line_stops before WriteFault it reason later stands = absurd reason
-  line_stops before LongLine it reason later stands = (
+  line_stops before DiskFault it reason later stands images = absurd reason
+  line_stops before WriteFault it reason later stands images = absurd reason
+  line_stops before LongLine it reason later stands images = (
     rest_of left,
-    (long_next was.left left it.done it.read reason.0, answered it reason.1.taken reason.1.consumed reason.1.few stands),
+    (long_next was.left left it.done it.read reason.0, answered it reason.1.taken reason.1.consumed reason.1.few stands images),
   )
-  line_stops before NoMemory it reason later stands =
-      inl (rest_of left, answered it reason.taken reason.consumed reason.few stands)
+  line_stops before NoMemory it reason later stands images =
+      inl (rest_of left, answered it reason.taken reason.consumed reason.few stands images)
 
   -- lines behind which one more was read
   before_line : (it : IsDone opening was.left left was.written now.written world moment history) (line : List ℕ) → ReadsLine left now.left line true
       → Consumes left now.left line → length line ≤ 140001 → IfSome now.told (StandsEither history (answer_line world moment line).entries)
-      → AnsweredBefore was now []
-  before_line it line reads consumes few stands = record {
+      → leaves (StandsForPart opening (history ++ (answer_line world moment line).entries)) → AnsweredBefore was now leaves []
+  before_line it line reads consumes few stands images = record {
     opening = opening;
     done = it.done;
     line = line;
@@ -270,31 +271,35 @@ module _ (was now : Outside) (opening : List Entry) (legal : IsLegal opening) (s
     stands =
         rw (← it.world_is, ← it.now_is)
         (subst (λ (h : List Entry). IfSome now.told (StandsEither h (answer_line world moment line).entries)) it.grows stands);
+    images =
+        rw (← it.world_is, ← it.now_is)
+        (subst (λ (h : List Entry). leaves (StandsForPart opening (h ++ (answer_line world moment line).entries))) it.grows images);
   }
 
   -- a run ends where a line has no answer
   pub answer_stops : (before : ℕ) (end : End) (line : List ℕ) → IsDone opening was.left left was.written now.written world moment history
       → HasStopCause before now.disk_faults end → was.disk_faults ≤ before → ReadsLine left now.left line true → Consumes left now.left line
-      → length line ≤ 140001 → IfSome now.told (StandsEither history (answer_line world moment line).entries) → HasLinesReason was now [] end
-  answer_stops before Finished line it reason later reads consumes few stands = absurd reason
-  answer_stops before Usage line it reason later reads consumes few stands = absurd reason
-  answer_stops before BadHeader line it reason later reads consumes few stands = absurd reason
-  answer_stops before (BadFrame at rule) line it reason later reads consumes few stands = absurd reason
-  answer_stops before ReadFault line it reason later reads consumes few stands = absurd reason
-  answer_stops before DiskFault line it reason later reads consumes few stands =
-      (rose_since _ _ _ later reason, before_line it line reads consumes few stands)
-  answer_stops before WriteFault line it reason later reads consumes few stands = absurd reason
-  answer_stops before LongLine line it reason later reads consumes few stands = absurd reason
-  answer_stops before NoMemory line it reason later reads consumes few stands = inr (before_line it line reads consumes few stands)
+      → length line ≤ 140001 → IfSome now.told (StandsEither history (answer_line world moment line).entries)
+      → leaves (StandsForPart opening (history ++ (answer_line world moment line).entries)) → HasLinesReason was now leaves [] end
+  answer_stops before Finished line it reason later reads consumes few stands images = absurd reason
+  answer_stops before Usage line it reason later reads consumes few stands images = absurd reason
+  answer_stops before BadHeader line it reason later reads consumes few stands images = absurd reason
+  answer_stops before (BadFrame at rule) line it reason later reads consumes few stands images = absurd reason
+  answer_stops before ReadFault line it reason later reads consumes few stands images = absurd reason
+  answer_stops before DiskFault line it reason later reads consumes few stands images =
+      (rose_since _ _ _ later reason, before_line it line reads consumes few stands images)
+  answer_stops before WriteFault line it reason later reads consumes few stands images = absurd reason
+  answer_stops before LongLine line it reason later reads consumes few stands images = absurd reason
+  answer_stops before NoMemory line it reason later reads consumes few stands images = inr (before_line it line reads consumes few stands images)
 
 -- a run ends where an answer is written in part
-pub write_stops : (was now : Outside) (opening : List Entry) → IsLegal opening → IfSome was.told (StandsForHistory opening)
+pub write_stops : (was now : Outside) (leaves : Imaging) (opening : List Entry) → IsLegal opening → IfSome was.told (StandsForHistory opening)
     → (left mid_written : Option (List ℕ)) (world new : World) (moment later : ℕ) (history longer : List Entry) (line text : List ℕ) (written before : ℕ)
     → IsDone opening was.left left was.written mid_written world moment history → ReadsLine left now.left line true → Consumes left now.left line
     → length line ≤ 140001 → IsNextLine world new moment later history longer line text → written < length text
     → Appends mid_written now.written (take written text) → was.write_faults ≤ before → Rose before now.write_faults
-    → IfSome now.told (StandsForHistory longer) → HasLinesReason was now [] WriteFault
-write_stops was now opening legal stood left mid_written world new moment later history longer line text written before it reads consumes few does part writes faults rose stands = (
+    → IfSome now.told (StandsForHistory longer) → leaves (StandsForPart opening longer) → HasLinesReason was now leaves [] WriteFault
+write_stops was now leaves opening legal stood left mid_written world new moment later history longer line text written before it reads consumes few does part writes faults rose stands images = (
   rose_since _ _ _ faults rose,
   record {
     opening = opening;
@@ -318,16 +323,19 @@ write_stops was now opening legal stood left mid_written world new moment later 
     stands =
         subst (λ (h : List Entry). IfSome now.told (StandsForHistory h))
         (next_history opening was.left left now.left was.written mid_written now.written world new moment later history longer line text it does) stands;
+    images =
+        subst (λ (h : List Entry). leaves (StandsForPart opening h))
+        (next_history opening was.left left now.left was.written mid_written now.written world new moment later history longer line text it does) images;
   },
 )
 
 -- a run ends behind a line without a line feed, since nothing is left
-pub ends_behind : (was now : Outside) (opening : List Entry) → IsLegal opening → IfSome was.told (StandsForHistory opening)
+pub ends_behind : (was now : Outside) (leaves : Imaging) (opening : List Entry) → IsLegal opening → IfSome was.told (StandsForHistory opening)
     → (left mid_written : Option (List ℕ)) (world new : World) (moment later : ℕ) (history longer : List Entry) (line text : List ℕ)
     → IsDone opening was.left left was.written mid_written world moment history → ReadsLine left now.left line true → Consumes left now.left line
     → line_length line ≤ 140000 → IsNextLine world new moment later history longer line text → Appends mid_written now.written text
-    → IsAtEnd now.left → IfSome now.told (StandsForHistory longer) → HasLinesReason was now [] Finished
-ends_behind was now opening legal stood left mid_written world new moment later history longer line text it reads consumes fits does writes end stands =
+    → IsAtEnd now.left → IfSome now.told (StandsForHistory longer) → leaves (StandsForPart opening longer) → HasLinesReason was now leaves [] Finished
+ends_behind was now leaves opening legal stood left mid_written world new moment later history longer line text it reads consumes fits does writes end stands images =
     let done : List (List ℕ) = it.done ++ line ∷ [] in
     (
       record {
@@ -352,6 +360,9 @@ ends_behind was now opening legal stood left mid_written world new moment later 
         stands =
             subst (λ (h : List Entry). IfSome now.told (StandsForHistory h))
             (next_history opening was.left left now.left was.written mid_written now.written world new moment later history longer line text it does) stands;
+        images =
+            subst (λ (h : List Entry). leaves (StandsForPart opening h))
+            (next_history opening was.left left now.left was.written mid_written now.written world new moment later history longer line text it does) images;
       },
       end,
     )

@@ -6,6 +6,8 @@ use Rattle.std.specs.Io.KnownBytes.{Appends, Consumes, IsAtEnd}
 use Rattle.std.specs.declared.string.String.{String}
 use Rattle.std.specs.declared.alloc.Global.{Global}
 use Rattle.fh_base.specs.Faults.{Rose}
+use Rattle.fh_disk.specs.Moments.{LeavesOnly}
+use Rattle.fh_journal.specs.Mounting.{IsBeingMade}
 use Rattle.fh_hub.specs.Hub.{StandsForHistory}
 use Rattle.fh_hub.specs.Mounting.{MountsHistory}
 use Rattle.fh_hub.specs.Replay.{Entry, IsLegal}
@@ -32,6 +34,16 @@ pub record Outside : Type 0 where
   pub told : Option (List ℕ)
   pub disk_faults : ℕ
 
+abbrev pub outside : Option (List ℕ) → ℕ → Option (List ℕ) → ℕ → Option (List ℕ) → ℕ → Outside
+outside left read_faults written write_faults told disk_faults = record {
+  left = left;
+  read_faults = read_faults;
+  written = written;
+  write_faults = write_faults;
+  told = told;
+  disk_faults = disk_faults;
+}
+
 -- where a source tells, these are its lines
 abbrev pub HasLines : Option (List ℕ) → List (List ℕ) → Type 0
 HasLines None all = ⊤
@@ -39,6 +51,26 @@ HasLines (Some bytes) all = lines bytes ≡ all
 
 abbrev pub is_short_line : List ℕ → Bool
 is_short_line line = nat_le (line_length line) 140000
+
+-- the file stands for a first part of this history, at least for the one that it begins with
+pub record StandsForPart (opening history : List Entry) (file : List ℕ) : Type 0 where
+  pub front : List Entry
+  pub rest : List Entry
+  pub whole : history ≡ opening ++ (front ++ rest)
+  pub stands : StandsForHistory (opening ++ front) file
+
+-- that each image of a disk at any moment since a run began is one that it had then, or has some property
+abbrev pub Imaging : Type 1
+Imaging = (List ℕ → Type 0) → Type 0
+
+-- that of a disk
+abbrev pub imaging : {D : Type 0} → (D → Option (List ℕ)) → (D → List ℕ → Type 0) → (D → ℕ) → (D → ℕ → List ℕ → Type 0) → D → D → Imaging
+imaging told may_leave moment left_since old new P =
+    IfSome (told old) (λ _. LeavesOnly moment left_since old new (λ c. may_leave old c ⊎ P c))
+
+-- the same where each image at the beginning has the property too
+abbrev pub imaging_lines : {D : Type 0} → (D → Option (List ℕ)) → (D → ℕ) → (D → ℕ → List ℕ → Type 0) → D → D → Imaging
+imaging_lines told moment left_since old new P = IfSome (told old) (λ _. LeavesOnly moment left_since old new P)
 
 -- the bytes of these lines
 abbrev pub joined : List (List ℕ) → List ℕ
@@ -57,20 +89,21 @@ pub record Wrote (was now : Outside) (opening : List Entry) (done more : List (L
   pub texts : Appends was.written now.written ((run opening done).written ++ behind)
 
 -- the same, and the journal stands for that history with the lines' entries behind it
-pub record Answered (was now : Outside) (more : List (List ℕ)) (behind : List ℕ) : Type 0 where
+pub record Answered (was now : Outside) (leaves : Imaging) (more : List (List ℕ)) (behind : List ℕ) : Type 0 where
   pub opening : List Entry
   pub done : List (List ℕ)
   pub wrote : Wrote was now opening done more behind
   pub stands : IfSome now.told (StandsForHistory (opening ++ (run opening done).entries))
+  pub images : leaves (StandsForPart opening (opening ++ (run opening done).entries))
 
 -- The same of as many lines as the source gave line feeds.
-pub record AnsweredAll (was now : Outside) (behind : List ℕ) : Type 0 where
+pub record AnsweredAll (was now : Outside) (leaves : Imaging) (behind : List ℕ) : Type 0 where
   pub more : List (List ℕ)
-  pub answered : Answered was now more behind
+  pub answered : Answered was now leaves more behind
   pub feeds : line_feeds (joined answered.done ++ answered.wrote.taken) ≡ length answered.done
 
 -- The same of lines behind which one more was read: its entries may stand in the journal too.
-pub record AnsweredBefore (was now : Outside) (behind : List ℕ) : Type 0 where
+pub record AnsweredBefore (was now : Outside) (leaves : Imaging) (behind : List ℕ) : Type 0 where
   pub opening : List Entry
   pub done : List (List ℕ)
   pub line : List ℕ
@@ -79,9 +112,12 @@ pub record AnsweredBefore (was now : Outside) (behind : List ℕ) : Type 0 where
   pub stands :
     let s = run opening done in
     IfSome now.told (StandsEither (opening ++ s.entries) (answer_line s.world s.now line).entries)
+  pub images :
+    let s = run opening done in
+    leaves (StandsForPart opening ((opening ++ s.entries) ++ (answer_line s.world s.now line).entries))
 
 -- The same of lines whose next answer was written in part alone, though its entries are in the journal.
-pub record CutOff (was now : Outside) : Type 0 where
+pub record CutOff (was now : Outside) (leaves : Imaging) : Type 0 where
   pub opening : List Entry
   pub done : List (List ℕ)
   pub line : List ℕ
@@ -91,12 +127,14 @@ pub record CutOff (was now : Outside) : Type 0 where
   pub wrote : Wrote was now opening done (line ∷ more)
     (take written (printed (answer_line (run opening done).world (run opening done).now line).text))
   pub stands : IfSome now.told (StandsForHistory (opening ++ (run opening (done ++ line ∷ [])).entries))
+  pub images : leaves (StandsForPart opening (opening ++ (run opening (done ++ line ∷ [])).entries))
 
 -- the journal isn't mounted: nothing was taken from the source, and the bytes are what this fault leaves
-pub record Unmounted (was now : Outside) (fault : HubFault) (behind : List ℕ) : Type 0 where
+pub record Unmounted (was now : Outside) (leaves : Imaging) (fault : HubFault) (behind : List ℕ) : Type 0 where
   pub left : now.left ≡ was.left
   pub bytes : MountsHistory was.told now.told (Some fault)
   pub texts : Appends was.written now.written behind
+  pub images : leaves (λ c. IfSome was.told (λ file. IsBeingMade file c))
 
 -- where a source tells, the next line is too long
 abbrev pub IsLongNext : Option (List ℕ) → List (List ℕ) → Type 0
@@ -105,29 +143,29 @@ IsLongNext (Some bytes) [] = ⊥
 IsLongNext (Some bytes) (line ∷ more) = 140000 < line_length line
 
 -- why a run ends whose journal was mounted, and what it leaves, with this text behind the answers
-abbrev pub HasLinesReason : Outside → Outside → List ℕ → End → Type 0
-HasLinesReason was now behind Finished = Answered was now [] behind × IsAtEnd now.left
-HasLinesReason was now behind Usage = ⊥
-HasLinesReason was now behind BadHeader = ⊥
-HasLinesReason was now behind (BadFrame at rule) = ⊥
-HasLinesReason was now behind ReadFault = Rose was.read_faults now.read_faults × AnsweredAll was now behind
-HasLinesReason was now behind DiskFault = Rose was.disk_faults now.disk_faults × AnsweredBefore was now behind
-HasLinesReason was now behind WriteFault = Rose was.write_faults now.write_faults × CutOff was now
-HasLinesReason was now behind LongLine = (more : List (List ℕ)) × (IsLongNext was.left more × Answered was now more behind)
-HasLinesReason was now behind NoMemory = ((more : List (List ℕ)) × Answered was now more behind) ⊎ AnsweredBefore was now behind
+abbrev pub HasLinesReason : Outside → Outside → Imaging → List ℕ → End → Type 0
+HasLinesReason was now leaves behind Finished = Answered was now leaves [] behind × IsAtEnd now.left
+HasLinesReason was now leaves behind Usage = ⊥
+HasLinesReason was now leaves behind BadHeader = ⊥
+HasLinesReason was now leaves behind (BadFrame at rule) = ⊥
+HasLinesReason was now leaves behind ReadFault = Rose was.read_faults now.read_faults × AnsweredAll was now leaves behind
+HasLinesReason was now leaves behind DiskFault = Rose was.disk_faults now.disk_faults × AnsweredBefore was now leaves behind
+HasLinesReason was now leaves behind WriteFault = Rose was.write_faults now.write_faults × CutOff was now leaves
+HasLinesReason was now leaves behind LongLine = (more : List (List ℕ)) × (IsLongNext was.left more × Answered was now leaves more behind)
+HasLinesReason was now leaves behind NoMemory = ((more : List (List ℕ)) × Answered was now leaves more behind) ⊎ AnsweredBefore was now leaves behind
 
 -- the same of any run
-abbrev pub HasReason : Outside → Outside → List ℕ → End → Type 0
-HasReason was now behind Finished = HasLinesReason was now behind Finished
-HasReason was now behind Usage = Appends was.written now.written behind × (now.told ≡ was.told)
-HasReason was now behind BadHeader = Unmounted was now mounts.BadHeader behind
-HasReason was now behind (BadFrame at rule) = Unmounted was now (mounts.BadFrame at rule) behind
-HasReason was now behind ReadFault = HasLinesReason was now behind ReadFault
-HasReason was now behind DiskFault =
-    (Rose was.disk_faults now.disk_faults × Unmounted was now mounts.DiskFault behind) ⊎ HasLinesReason was now behind DiskFault
-HasReason was now behind WriteFault = HasLinesReason was now behind WriteFault
-HasReason was now behind LongLine = HasLinesReason was now behind LongLine
-HasReason was now behind NoMemory = Unmounted was now mounts.NoMemory behind ⊎ HasLinesReason was now behind NoMemory
+abbrev pub HasReason : Outside → Outside → Imaging → List ℕ → End → Type 0
+HasReason was now leaves behind Finished = HasLinesReason was now leaves behind Finished
+HasReason was now leaves behind Usage = Appends was.written now.written behind × (now.told ≡ was.told)
+HasReason was now leaves behind BadHeader = Unmounted was now leaves mounts.BadHeader behind
+HasReason was now leaves behind (BadFrame at rule) = Unmounted was now leaves (mounts.BadFrame at rule) behind
+HasReason was now leaves behind ReadFault = HasLinesReason was now leaves behind ReadFault
+HasReason was now leaves behind DiskFault =
+    (Rose was.disk_faults now.disk_faults × Unmounted was now leaves mounts.DiskFault behind) ⊎ HasLinesReason was now leaves behind DiskFault
+HasReason was now leaves behind WriteFault = HasLinesReason was now leaves behind WriteFault
+HasReason was now leaves behind LongLine = HasLinesReason was now leaves behind LongLine
+HasReason was now leaves behind NoMemory = Unmounted was now leaves mounts.NoMemory behind ⊎ HasLinesReason was now leaves behind NoMemory
 
 -- the ends of a run whose journal is mounted
 abbrev pub IsOfLines : End → Type 0
@@ -142,9 +180,9 @@ IsOfLines LongLine = ⊤
 IsOfLines NoMemory = ⊤
 
 -- a run that has this end: its last line stands behind the answers, cut only where the sink failed and counted it
-pub record EndsBy (was now : Outside) (code : ℕ) : Type 0 where
+pub record EndsBy (was now : Outside) (leaves : Imaging) (code : ℕ) : Type 0 where
   pub end : End
   pub status : code ≡ code_of end
   pub written : ℕ
   pub whole : written < length (last_line end) → Rose was.write_faults now.write_faults
-  pub reason : HasReason was now (take written (last_line end)) end
+  pub reason : HasReason was now leaves (take written (last_line end)) end

@@ -20,7 +20,8 @@ pub fn read_line<S: Source>(source: &mut S, line: &mut Vec<u8>) -> Result<bool, 
     ensures consumed { OnOk result (Consumes (S.left source.old) (S.left source.new) line.new.items) }
     ensures feeds { OnOk result (is_ended line.new.items ≡ true → line_feeds line.new.items ≡ 1) }
     ensures ended { OnOk result (is_ended line.new.items ≡ false → IsAtEnd (S.left source.new)) }
-    ensures reason { IfErr result (HasLineReason (S.left source.old) (S.left source.new) (S.read_faults source.old) (S.read_faults source.new)) }
+    ensures reason { IfErr result (HasLineReason (S.left source.old) (S.left source.new)
+        (S.read_faults source.old) (S.read_faults source.new)) }
     ensures less { IfOk result (λ found. found ≡ true → S.most source.new < S.most source.old) }
     ensures count { S.read_faults source.old ≤ S.read_faults source.new }
 {

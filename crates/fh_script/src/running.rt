@@ -1,10 +1,10 @@
 // The top call of the script.
-ghost use Rattle.std.specs.Prelude.{◌≡◌, ◌≤◌, ◌==◌, [], true, false, not, length, take, ℕ, IfSome};
+ghost use Rattle.std.specs.Prelude.{◌≡◌, ◌≤◌, ◌==◌, [], false, not};
 ghost use Rattle.fh_script.specs.Ends.{code_of, last_line};
 ghost use Rattle.fh_hub.specs.State.{world_of};
 ghost use Rattle.fh_hub.specs.Replay.{replay, IsLegal};
-ghost use Rattle.fh_script.specs.Script.{is_script, HasLinesReason, HasReason, EndsBy, Outside, IsOfLines};
-ghost use Rattle.fh_script.specs.Session.{Holds};
+ghost use Rattle.fh_script.specs.Script.{EndsBy, HasLinesReason, HasReason, IsOfLines, imaging, imaging_lines, is_script, outside};
+ghost use Rattle.fh_script.specs.Session.{HoldsIn};
 ghost use Rattle.fh_script.specs.Concluding.{Concludes};
 
 use crate::End;
@@ -30,8 +30,11 @@ pub fn script<S: Source, O: Sink, J: Disk, K: Disk>(
 ) -> Status
     ensures usage { (result.code == 2) ≡ not (is_script words.now) }
     ensures ends { EndsBy
-        (record { left = S.left source.old; read_faults = S.read_faults source.old; written = O.written sink.old; write_faults = O.write_faults sink.old; told = J.told journal.old; disk_faults = J.disk_faults journal.old })
-        (record { left = S.left source.new; read_faults = S.read_faults source.new; written = O.written sink.new; write_faults = O.write_faults sink.new; told = J.told journal.new; disk_faults = J.disk_faults journal.new })
+        (outside (S.left source.old) (S.read_faults source.old) (O.written sink.old) (O.write_faults sink.old)
+        (J.told journal.old) (J.disk_faults journal.old))
+        (outside (S.left source.new) (S.read_faults source.new) (O.written sink.new) (O.write_faults sink.new)
+        (J.told journal.new) (J.disk_faults journal.new))
+        (imaging J.told J.may_leave J.moment J.left_since journal.old journal.new)
         result.code }
     ensures unasked { result.code ≡ 2 → (source.new ≡ source.old) × (journal.new ≡ journal.old) }
     ensures unread { result.code ≡ 4 → source.new ≡ source.old }
@@ -63,7 +66,8 @@ fn is_script(words: &[String]) -> bool
 fn conclude<O: Sink>(sink: &mut O, end: End, line: &str) -> Status
     requires { line.now ≡ last_line end }
     ensures status { result.code ≡ code_of end }
-    ensures written { Concludes (O.written sink.old) (O.written sink.new) (last_line end) (O.write_faults sink.old) (O.write_faults sink.new) }
+    ensures written { Concludes (O.written sink.old) (O.written sink.new) (last_line end)
+        (O.write_faults sink.old) (O.write_faults sink.new) }
     ensures count { O.write_faults sink.old ≤ O.write_faults sink.new }
 {
     // The status stays where its line can't be written.
@@ -79,8 +83,11 @@ fn run<S: Source, O: Sink, J: Disk>(
     journal: &mut J,
 ) -> End
     ensures reason { HasReason
-        (record { left = S.left source.old; read_faults = S.read_faults source.old; written = O.written sink.old; write_faults = O.write_faults sink.old; told = J.told journal.old; disk_faults = J.disk_faults journal.old })
-        (record { left = S.left source.new; read_faults = S.read_faults source.new; written = O.written sink.new; write_faults = O.write_faults sink.new; told = J.told journal.new; disk_faults = J.disk_faults journal.new })
+        (outside (S.left source.old) (S.read_faults source.old) (O.written sink.old) (O.write_faults sink.old)
+        (J.told journal.old) (J.disk_faults journal.old))
+        (outside (S.left source.new) (S.read_faults source.new) (O.written sink.new) (O.write_faults sink.new)
+        (J.told journal.new) (J.disk_faults journal.new))
+        (imaging J.told J.may_leave J.moment J.left_since journal.old journal.new)
         [] result }
     ensures unread { code_of result ≡ 4 → source.new ≡ source.old }
     ensures asked { result ≡ End.Usage → ⊥ }
@@ -107,11 +114,14 @@ fn answer_lines<S: Source, O: Sink, J: Disk>(
     requires world { world_of session.old.hub.state ≡ replay session.old.hub.state.history }
     requires legal { IsLegal session.old.hub.state.history }
     requires whole { session.old.hub.journal.torn ≡ false }
-    requires holds { Holds (J.told session.old.hub.journal.disk.now) (J.may_leave session.old.hub.journal.disk.now)
-        session.old.hub.state.history session.old.hub.journal.gate }
+    requires holds { HoldsIn session.old.hub }
     ensures reason { HasLinesReason
-        (record { left = S.left source.old; read_faults = S.read_faults source.old; written = O.written sink.old; write_faults = O.write_faults sink.old; told = J.told session.old.hub.journal.disk.now; disk_faults = J.disk_faults session.old.hub.journal.disk.now })
-        (record { left = S.left source.new; read_faults = S.read_faults source.new; written = O.written sink.new; write_faults = O.write_faults sink.new; told = J.told session.new.hub.journal.disk.now; disk_faults = J.disk_faults session.new.hub.journal.disk.now })
+        (outside (S.left source.old) (S.read_faults source.old) (O.written sink.old) (O.write_faults sink.old)
+        (J.told session.old.hub.journal.disk.now) (J.disk_faults session.old.hub.journal.disk.now))
+        (outside (S.left source.new) (S.read_faults source.new) (O.written sink.new) (O.write_faults sink.new)
+        (J.told session.new.hub.journal.disk.now) (J.disk_faults session.new.hub.journal.disk.now))
+        (imaging_lines J.told J.moment J.left_since
+        session.old.hub.journal.disk.now session.new.hub.journal.disk.now)
         [] result }
     ensures mounted { IsOfLines result }
     ensures writes { O.write_faults sink.old ≤ O.write_faults sink.new }

@@ -1,10 +1,7 @@
 // A run over a journal: the hub, the moment, and what each line does to them.
-ghost use Rattle.std.specs.Prelude.{◌≡◌, ◌≤◌, ◌++◌, [], ◌∷◌, false, Some, IfOk, IfErr, IfSome, OnOk, string_bytes};
-ghost use Rattle.fh_disk.specs.Moments.{LeavesOnly};
+ghost use Rattle.std.specs.Prelude.{◌≡◌, ◌++◌, [], ◌∷◌, Some, IfOk, OnOk, string_bytes};
 ghost use Rattle.fh_event.specs.Lines.{answer_line as answer_line_of};
-ghost use Rattle.fh_hub.specs.State.{world_of, IsIdle};
-ghost use Rattle.fh_script.specs.Machine.{answer_line, at_text, fault_text, make_step, moment_after, printed};
-ghost use Rattle.fh_script.specs.Session.{HasStopCause, Holds, StandsEither};
+ghost use Rattle.fh_script.specs.Machine.{at_text, fault_text, moment_after, printed};
 
 use crate::End;
 use crate::faults::LineFault;
@@ -23,6 +20,12 @@ pub struct Session<'d, J: Disk> {
 }
 
 impl<'d, J: Disk> Session<'d, J> {
+    ghost use Rattle.std.specs.Prelude.{◌≡◌, ◌≤◌, ◌++◌, false, IfOk, IfErr, OnOk, string_bytes};
+    ghost use Rattle.fh_hub.specs.Hub.{LeavesSince, faults_of};
+    ghost use Rattle.fh_hub.specs.State.{world_of, IsIdle};
+    ghost use Rattle.fh_script.specs.Machine.{printed};
+    ghost use Rattle.fh_script.specs.Session.{HasStopCause, HoldsIn, StandsEither, StandsIn, StaysToldIn, done_in, made_in};
+
     /// A run over a disk whose journal was prepared, at the moment 0. Takes no memory.
     pub fn over(alloc: Global, disk: &'d mut J, state: State) -> Session<'d, J>
         requires { IsIdle state }
@@ -48,26 +51,24 @@ impl<'d, J: Disk> Session<'d, J> {
         hub.close()
     }
 
-    /// Does what a line says, and gives the text that answers it: empty for a line of no words.
-    #[tactic(auto, unfolding(crate::specs::Machine::answer_line))]
+    /// Does what a line says, and gives the text that answers it: empty for a line of no words. Where that
+    /// text finds no memory the step may have been made.
+    #[tactic(auto, unfolding(crate::specs::Machine::answer_line), using(crate::proofs::Steps::stays_as_told))]
     pub fn answer(&mut self, alloc: Global, line: &[u8]) -> Result<String, End>
         requires whole { self.old.hub.journal.torn ≡ false }
-        requires holds { Holds (J.told self.old.hub.journal.disk.now) (J.may_leave self.old.hub.journal.disk.now) self.old.hub.state.history self.old.hub.journal.gate }
-        ensures text { IfOk result (λ text. string_bytes text ≡ printed (answer_line (world_of self.old.hub.state) self.old.now line.now).text) }
-        ensures world { OnOk result (world_of self.new.hub.state ≡ (answer_line (world_of self.old.hub.state) self.old.now line.now).world) }
-        ensures history { OnOk result (self.new.hub.state.history
-            ≡ self.old.hub.state.history ++ (answer_line (world_of self.old.hub.state) self.old.now line.now).entries) }
-        ensures moment { OnOk result (self.new.now ≡ (answer_line (world_of self.old.hub.state) self.old.now line.now).now) }
+        requires holds { HoldsIn self.old.hub }
+        ensures text { IfOk result (λ text. string_bytes text ≡ printed (done_in self.old line.now).text) }
+        ensures world { OnOk result (world_of self.new.hub.state ≡ (done_in self.old line.now).world) }
+        ensures history { OnOk result (self.new.hub.state.history ≡ self.old.hub.state.history ++ (done_in self.old line.now).entries) }
+        ensures moment { OnOk result (self.new.now ≡ (done_in self.old line.now).now) }
         ensures still_whole { OnOk result (self.new.hub.journal.torn ≡ false) }
-        ensures holds { OnOk result (Holds (J.told self.new.hub.journal.disk.now) (J.may_leave self.new.hub.journal.disk.now)
-            self.new.hub.state.history self.new.hub.journal.gate) }
-        ensures cause { IfErr result (HasStopCause (J.disk_faults self.old.hub.journal.disk.now) (J.disk_faults self.new.hub.journal.disk.now)) }
-        ensures stands { IfSome (J.told self.new.hub.journal.disk.now) (StandsEither self.old.hub.state.history
-            (answer_line (world_of self.old.hub.state) self.old.now line.now).entries) }
-        ensures any_moment { IfSome (J.told self.old.hub.journal.disk.now) (λ _. LeavesOnly J.moment J.left_since
-            self.old.hub.journal.disk.now self.new.hub.journal.disk.now
-            (StandsEither self.old.hub.state.history (answer_line (world_of self.old.hub.state) self.old.now line.now).entries)) }
-        ensures count { J.disk_faults self.old.hub.journal.disk.now ≤ J.disk_faults self.new.hub.journal.disk.now }
+        ensures holds { OnOk result (HoldsIn self.new.hub) }
+        ensures cause { IfErr result (HasStopCause (faults_of self.old.hub) (faults_of self.new.hub)) }
+        ensures stands { StandsIn self.old self.new (done_in self.old line.now).entries }
+        ensures any_moment { LeavesSince self.old.hub self.new.hub
+            (StandsEither self.old.hub.state.history (done_in self.old line.now).entries) }
+        ensures told { StaysToldIn self.old self.new }
+        ensures count { faults_of self.old.hub ≤ faults_of self.new.hub }
         ensures same { self.new.hub.journal.disk.ghost_name ≡ self.old.hub.journal.disk.ghost_name }
     {
         match read_command(alloc, line)? {
@@ -80,22 +81,19 @@ impl<'d, J: Disk> Session<'d, J> {
 
     fn step(&mut self, alloc: Global, command: &Command) -> Result<String, End>
         requires whole { self.old.hub.journal.torn ≡ false }
-        requires holds { Holds (J.told self.old.hub.journal.disk.now) (J.may_leave self.old.hub.journal.disk.now) self.old.hub.state.history self.old.hub.journal.gate }
-        ensures text { IfOk result (λ text. string_bytes text ≡ printed (make_step (world_of self.old.hub.state) self.old.now command.now).text) }
-        ensures world { OnOk result (world_of self.new.hub.state ≡ (make_step (world_of self.old.hub.state) self.old.now command.now).world) }
-        ensures history { OnOk result (self.new.hub.state.history
-            ≡ self.old.hub.state.history ++ (make_step (world_of self.old.hub.state) self.old.now command.now).entries) }
+        requires holds { HoldsIn self.old.hub }
+        ensures text { IfOk result (λ text. string_bytes text ≡ printed (made_in self.old command.now).text) }
+        ensures world { OnOk result (world_of self.new.hub.state ≡ (made_in self.old command.now).world) }
+        ensures history { OnOk result (self.new.hub.state.history ≡ self.old.hub.state.history ++ (made_in self.old command.now).entries) }
         ensures moment { self.new.now ≡ self.old.now }
         ensures still_whole { OnOk result (self.new.hub.journal.torn ≡ false) }
-        ensures holds { OnOk result (Holds (J.told self.new.hub.journal.disk.now) (J.may_leave self.new.hub.journal.disk.now)
-            self.new.hub.state.history self.new.hub.journal.gate) }
-        ensures cause { IfErr result (HasStopCause (J.disk_faults self.old.hub.journal.disk.now) (J.disk_faults self.new.hub.journal.disk.now)) }
-        ensures stands { IfSome (J.told self.new.hub.journal.disk.now) (StandsEither self.old.hub.state.history
-            (make_step (world_of self.old.hub.state) self.old.now command.now).entries) }
-        ensures any_moment { IfSome (J.told self.old.hub.journal.disk.now) (λ _. LeavesOnly J.moment J.left_since
-            self.old.hub.journal.disk.now self.new.hub.journal.disk.now
-            (StandsEither self.old.hub.state.history (make_step (world_of self.old.hub.state) self.old.now command.now).entries)) }
-        ensures count { J.disk_faults self.old.hub.journal.disk.now ≤ J.disk_faults self.new.hub.journal.disk.now }
+        ensures holds { OnOk result (HoldsIn self.new.hub) }
+        ensures cause { IfErr result (HasStopCause (faults_of self.old.hub) (faults_of self.new.hub)) }
+        ensures stands { StandsIn self.old self.new (made_in self.old command.now).entries }
+        ensures any_moment { LeavesSince self.old.hub self.new.hub
+            (StandsEither self.old.hub.state.history (made_in self.old command.now).entries) }
+        ensures told { StaysToldIn self.old self.new }
+        ensures count { faults_of self.old.hub ≤ faults_of self.new.hub }
         ensures same { self.new.hub.journal.disk.ghost_name ≡ self.old.hub.journal.disk.ghost_name }
     {
         match self.hub.step(alloc, command, self.now) {

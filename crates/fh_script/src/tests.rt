@@ -215,7 +215,7 @@ fn damaged_files_and_their_last_lines(rt: HostRuntime) -> Result<(), Fail> {
         (31, Some(9), "damaged 30 Length\n"),
         (43, Some(200), "damaged 30 Kind\n"),
         (66, Some(9), "damaged 30 Short\n"),
-        (45, Some(9), "damaged 30 Long\n"),
+        (44, Some(2), "damaged 30 Long\n"),
         (35, Some(0xFF), "damaged 30 Field\n"),
         (66, Some(1), "damaged 30 Trailing\n"),
     ];

@@ -1,5 +1,8 @@
-use Rattle.std.proofs.Common.{◌≡◌, ◌≤◌, false}
+use Rattle.std.proofs.Common.{◌≡◌, ◌≤◌, false, IfSome}
 use Rattle.fh_hub.specs.State.{world_of}
+use Rattle.fh_disk.specs.Moments.{LeavesOnly}
+use Rattle.fh_journal.specs.Keeping.{StaysTold}
+use Rattle.fh_script.specs.Script.{StandsForPart}
 use Rattle.fh_script.specs.Session.{Holds}
 use Rattle.fh_script.proofs.Turns.{IsDone}
 use Rattle.fh_script.proofs.running.answer_lines.Given as goal
@@ -13,6 +16,11 @@ invariant-loop-line g l = record {
   holds :
       Holds (g.J.Disk.told l.session.hub.journal.disk.now) (g.J.Disk.may_leave l.session.hub.journal.disk.now) l.session.hub.state.history
       l.session.hub.journal.gate;
+  told : StaysTold (g.J.Disk.told l.initial.session.hub.journal.disk.now) (g.J.Disk.told l.session.hub.journal.disk.now);
+  images :
+      IfSome (g.J.Disk.told l.initial.session.hub.journal.disk.now) (λ _. LeavesOnly g.J.Disk.moment g.J.Disk.left_since
+      l.initial.session.hub.journal.disk.now l.session.hub.journal.disk.now
+      (StandsForPart l.initial.session.hub.state.history l.session.hub.state.history));
   reads : g.S.Source.read_faults l.initial.source ≤ g.S.Source.read_faults l.source;
   writes : g.O.Sink.write_faults l.initial.sink ≤ g.O.Sink.write_faults l.sink;
   disk : g.J.Disk.disk_faults l.initial.session.hub.journal.disk.now ≤ g.J.Disk.disk_faults l.session.hub.journal.disk.now;

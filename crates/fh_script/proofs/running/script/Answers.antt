@@ -16,7 +16,7 @@ returns-then-not-is_script-clause-ends g c =
       told = g.J.Disk.told c.args.journal.now;
       disk_faults = g.J.Disk.disk_faults c.args.journal.now;
     } in
-    ends_by start start _ _ Usage _ c.conclude.ensures.status (appends-nothing (g.O.Sink.written c.args.sink.now), refl) (omega arith)
+    ends_by start start _ _ _ Usage _ c.conclude.ensures.status (appends-nothing (g.O.Sink.written c.args.sink.now), refl) (omega arith)
     c.conclude.ensures.count c.conclude.ensures.written
 
 pub returns-in_default-clause-ends : goal.returns-in_default-clause-ends
@@ -28,7 +28,7 @@ returns-in_default-clause-ends g c =
       write_faults = g.O.Sink.write_faults c.run-end.new.sink;
       told = g.J.Disk.told c.run-end.new.journal;
       disk_faults = g.J.Disk.disk_faults c.run-end.new.journal;
-    }) _ _ c.run-end.result _ c.conclude-in_default.ensures.status c.run-end.ensures.reason c.run-end.ensures.count c.conclude-in_default.ensures.count c.conclude-in_default.ensures.written
+    }) _ _ _ c.run-end.result _ c.conclude-in_default.ensures.status c.run-end.ensures.reason c.run-end.ensures.count c.conclude-in_default.ensures.count c.conclude-in_default.ensures.written
 
 pub returns-in-Err-clause-ends : goal.returns-in-Err-clause-ends
 returns-in-Err-clause-ends g c =
@@ -39,4 +39,4 @@ returns-in-Err-clause-ends g c =
       write_faults = g.O.Sink.write_faults c.run-end.new.sink;
       told = g.J.Disk.told c.run-end.new.journal;
       disk_faults = g.J.Disk.disk_faults c.run-end.new.journal;
-    }) _ _ NoMemory _ c.conclude-in-Err.ensures.status (inl (without_memory _ _ c.in-BadFrame.at c.in-BadFrame.rule c.in-BadFrame.ensures.reason)) c.run-end.ensures.count c.conclude-in-Err.ensures.count c.conclude-in-Err.ensures.written
+    }) _ _ _ NoMemory _ c.conclude-in-Err.ensures.status (inl (without_memory _ _ _ c.in-BadFrame.at c.in-BadFrame.rule c.in-BadFrame.ensures.reason)) c.run-end.ensures.count c.conclude-in-Err.ensures.count c.conclude-in-Err.ensures.written

@@ -1,7 +1,7 @@
-use Rattle.std.proofs.Common.{◌≡◌, rules, sym, ◌∙◌, subst, ap, false, List}
+use Rattle.std.proofs.Common.{◌≡◌, ◌∙◌, subst, List}
 use Rattle.fh_hub.specs.World.{step, effective_moment}
 use Rattle.fh_hub.specs.Hub.{KeepsHistory}
-use Rattle.fh_hub.specs.Replay.{Entry, noted}
+use Rattle.fh_hub.specs.Replay.{Entry}
 use Rattle.fh_hub.specs.State.{world_of}
 use Rattle.fh_hub.specs.Plans.{entry_at}
 use Rattle.fh_script.proofs.Steps.{kept, held_again, stands_grown, stands_failed, either_same, leaves_either}
