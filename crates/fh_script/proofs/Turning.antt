@@ -336,8 +336,7 @@ pub ends_behind : (was now : Outside) (leaves : Imaging) (opening : List Entry) 
     → line_length line ≤ 140000 → IsNextLine world new moment later history longer line text → Appends mid_written now.written text
     → IsAtEnd now.left → IfSome now.told (StandsForHistory longer) → leaves (StandsForPart opening longer) → HasLinesReason was now leaves [] Finished
 ends_behind was now leaves opening legal stood left mid_written world new moment later history longer line text it reads consumes fits does writes end stands images =
-    let done : List (List ℕ) = it.done ++ line ∷ [] in
-    (
+    let done : List (List ℕ) = it.done ++ line ∷ [] in (
       record {
         opening = opening;
         done = done;

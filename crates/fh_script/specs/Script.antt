@@ -110,11 +110,11 @@ pub record AnsweredBefore (was now : Outside) (leaves : Imaging) (behind : List 
   pub more : List (List ℕ)
   pub wrote : Wrote was now opening done (line ∷ more) behind
   pub stands :
-    let s = run opening done in
-    IfSome now.told (StandsEither (opening ++ s.entries) (answer_line s.world s.now line).entries)
+      let s = run opening done in
+      IfSome now.told (StandsEither (opening ++ s.entries) (answer_line s.world s.now line).entries)
   pub images :
-    let s = run opening done in
-    leaves (StandsForPart opening ((opening ++ s.entries) ++ (answer_line s.world s.now line).entries))
+      let s = run opening done in
+      leaves (StandsForPart opening ((opening ++ s.entries) ++ (answer_line s.world s.now line).entries))
 
 -- The same of lines whose next answer was written in part alone, though its entries are in the journal.
 pub record CutOff (was now : Outside) (leaves : Imaging) : Type 0 where
@@ -125,7 +125,7 @@ pub record CutOff (was now : Outside) (leaves : Imaging) : Type 0 where
   pub written : ℕ
   pub part : written < length (printed (answer_line (run opening done).world (run opening done).now line).text)
   pub wrote : Wrote was now opening done (line ∷ more)
-    (take written (printed (answer_line (run opening done).world (run opening done).now line).text))
+      (take written (printed (answer_line (run opening done).world (run opening done).now line).text))
   pub stands : IfSome now.told (StandsForHistory (opening ++ (run opening (done ++ line ∷ [])).entries))
   pub images : leaves (StandsForPart opening (opening ++ (run opening (done ++ line ∷ [])).entries))
 

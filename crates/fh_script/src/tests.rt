@@ -229,9 +229,15 @@ fn damaged_files_and_their_last_lines(rt: HostRuntime) -> Result<(), Fail> {
     // The put goes to a queue that isn't there.
     let file = changed(&rt, 48, Some(b'p'))?;
     let end = run(&rt, b"", &file, NEVER)?;
-    assert_eq!(rt; (end.code, end.written.as_str()), (4, "damaged 30 Refused\n"));
+    assert_eq!(rt;
+        (end.code, end.written.as_str()),
+        (4, "damaged 30 Refused\n")
+    );
     let end = run(&rt, b"", &[0x46, 0x4E, 0x48, 0x58, 0, 1, 0, 0], NEVER)?;
-    assert_eq!(rt; (end.code, end.written.as_str()), (4, "damaged 0 BadHeader\n"));
+    assert_eq!(rt;
+        (end.code, end.written.as_str()),
+        (4, "damaged 0 BadHeader\n")
+    );
     Ok(())
 }
 
@@ -299,7 +305,10 @@ fn stopped(rt: &HostRuntime, calls: u64) -> Result<(MemoryDisk, usize), Fail> {
 fn each_stop_leaves_the_lines_that_were_answered(rt: HostRuntime) -> Result<(), Fail> {
     let alloc = rt.alloc();
     let whole = run(&rt, OLD_RECEIPT.as_bytes(), b"", NEVER)?;
-    let all = fh_hub::prepare(alloc, &mut MemoryDisk::plain(whole.journal, failing_after(99)))?;
+    let all = fh_hub::prepare(
+        alloc,
+        &mut MemoryDisk::plain(whole.journal, failing_after(99)),
+    )?;
     assert_eq!(rt; all.history().len(), 4);
     for calls in 0..24 {
         let (disk, answered) = stopped(&rt, calls)?;

@@ -54,7 +54,7 @@ returns-then-byte-eq-LINE_FEED-clause-short g c =
 pub returns-then-len-gt-MOST-clause-reason : goal.returns-then-len-gt-MOST-clause-reason
 returns-then-len-gt-MOST-clause-reason g c = (
   starts_longer _ _ _ c.loop-byte.line.items _ _ c.loop-byte.invariant.plain c.if-byte-eq-LINE_FEED.false c.in-Ok-push.ensures.items
-  c.loop-byte.invariant.read (rw c.in-Some.is at c.in-Ok.ensures.byte) (search rules),
+      c.loop-byte.invariant.read (rw c.in-Some.is at c.in-Ok.ensures.byte) (search rules),
   took _ _ _ c.loop-byte.line.items _ c.loop-byte.invariant.read (rw c.in-Some.is at c.in-Ok.ensures.byte) c.loop-byte.invariant.short,
 )
 

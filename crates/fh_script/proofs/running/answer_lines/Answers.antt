@@ -119,11 +119,11 @@ loop-line-preserved g c = record {
   holds = c.in-Ok.ensures.holds;
   told = stays_told _ _ _ c.loop-line.invariant.told c.answer.ensures.told;
   images = (subst (λ (h : List Entry). IfSome (g.J.Disk.told c.args.session.now.hub.journal.disk.now) (λ _. LeavesOnly g.J.Disk.moment g.J.Disk.left_since
-    c.args.session.now.hub.journal.disk.now c.answer.new.self.hub.journal.disk.now (StandsForPart c.args.session.now.hub.state.history h)))
-    (sym (rw c.deref.ensures.value at c.in-Ok.ensures.history)) (more_images g.J.Disk.told g.J.Disk.may_leave g.J.Disk.moment g.J.Disk.left_since c.args.session.now.hub.journal.disk.now c.loop-line.session.hub.journal.disk.now
-    c.answer.new.self.hub.journal.disk.now c.args.session.now.hub.state.history c.loop-line.session.hub.state.history _
-    (answer_line (world_of c.loop-line.session.hub.state) c.loop-line.session.now c.read_line.new.line.items).entries
-    c.loop-line.invariant.running.grows c.loop-line.invariant.told c.loop-line.invariant.images (rw c.deref.ensures.value at c.answer.ensures.any_moment)));
+      c.args.session.now.hub.journal.disk.now c.answer.new.self.hub.journal.disk.now (StandsForPart c.args.session.now.hub.state.history h)))
+      (sym (rw c.deref.ensures.value at c.in-Ok.ensures.history)) (more_images g.J.Disk.told g.J.Disk.may_leave g.J.Disk.moment g.J.Disk.left_since c.args.session.now.hub.journal.disk.now c.loop-line.session.hub.journal.disk.now
+      c.answer.new.self.hub.journal.disk.now c.args.session.now.hub.state.history c.loop-line.session.hub.state.history _
+      (answer_line (world_of c.loop-line.session.hub.state) c.loop-line.session.now c.read_line.new.line.items).entries
+      c.loop-line.invariant.running.grows c.loop-line.invariant.told c.loop-line.invariant.images (rw c.deref.ensures.value at c.answer.ensures.any_moment)));
   reads = omega (arith, c.loop-line.invariant.reads, c.read_line.ensures.count);
   writes = omega (arith, c.loop-line.invariant.writes, c.write_all.ensures.cause.later);
   disk = omega (arith, c.loop-line.invariant.disk, c.answer.ensures.count);
