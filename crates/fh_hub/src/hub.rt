@@ -25,6 +25,7 @@ pub struct Hub<'d, J: Disk> {
 impl<'d, J: Disk> Hub<'d, J> {
     ghost use Rattle.std.specs.Prelude.{◌≡◌, ◌⊎◌, ◌≤◌, ◌∷◌, ◌++◌, [], true, false, List, None, Some, IfOk, IfErr, OnOk, OnErr, IfSome, MatchResult};
     ghost use Rattle.fh_base.specs.Faults.{Rose};
+    ghost use Rattle.fh_base.specs.Moments.{greatest_moment};
     ghost use Rattle.fh_disk.specs.Disk.{OnlyTold};
     ghost use Rattle.fh_disk.specs.Moments.{LeavesOnly};
     ghost use Rattle.fh_journal.specs.Keeping.{Keeps, StaysTold};
@@ -93,11 +94,13 @@ impl<'d, J: Disk> Hub<'d, J> {
         self.state.history()
     }
 
-    /// Where a message is, at the greater of the moment handed in and that of the last entry. Takes no
-    /// memory.
-    pub fn place_of(&self, number: u64, now: Moment) -> Place
+    /// Where a message is, at the greater of the moment handed in, in milliseconds, and that of the last
+    /// entry. Takes no memory.
+    pub fn place_of(&self, number: u64, now: u64) -> Place
+        requires { now ≤ greatest_moment }
         ensures { result ≡ place_of self.now.state.queues.part number (effective_moment (world_of self.now.state) now) }
     {
+        let now = Moment::new(now).unwrap();
         self.state.place_of(number, now)
     }
 

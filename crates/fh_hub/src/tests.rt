@@ -1,5 +1,5 @@
 use super::*;
-use fh_base::{Failing, FaultPlan, Moment};
+use fh_base::{Failing, FaultPlan};
 use fh_disk::{Disk, MemoryDisk};
 use fh_event::{Command, EventFault, Place, StepFault, Text, answer_text};
 use fh_journal::FrameRule;
@@ -128,11 +128,11 @@ fn places_of_messages(rt: HostRuntime) -> Result<(), Fail> {
     ] {
         assert_eq!(rt; answer(alloc, &mut hub, &command, 1000)?.as_str(), expected);
     }
-    let before = hub.place_of(1, Moment::new(0).unwrap());
+    let before = hub.place_of(1, 0);
     assert!(rt; matches!(before, Place::Held { until: 31000, .. }));
-    let after = hub.place_of(1, Moment::new(31000).unwrap());
+    let after = hub.place_of(1, 31000);
     assert!(rt; matches!(after, Place::Waiting { .. }));
-    let unborn = hub.place_of(2, Moment::new(0).unwrap());
+    let unborn = hub.place_of(2, 0);
     assert!(rt; matches!(unborn, Place::Unknown));
     hub.close();
     Ok(())

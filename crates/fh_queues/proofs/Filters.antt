@@ -1,6 +1,10 @@
 -- Lists that a test divides.
-use Rattle.std.proofs.Common.{◌≡◌, ℕ, suc, zero, ◌+◌, Bool, true, false, not, List, [], ◌∷◌, ◌++◌, length, take, drop, filter, refl, sym, ap, ◌∙◌, arith}
+use Rattle.std.proofs.Common.{◌≡◌, ℕ, suc, zero, ◌+◌, ◌<◌, ◌≤◌, Bool, true, false, not, List, [], ◌∷◌, ◌++◌, length, take, drop, filter, refl, sym, ap, ◌∙◌, arith}
+use Rattle.std.specs.Prelude.{nat_le, None}
 use Rattle.std.specs.List.{list_all}
+use Rattle.std.proofs.lemmas.Bool.Decides.{nat_tests}
+use Rattle.fh_queues.specs.Part.{QueuePart}
+use Rattle.fh_queues.specs.Rules.{store_rule}
 use Rattle.fh_queues.specs.declared.row.Message.{Message}
 use Rattle.fh_queues.specs.Rows.{is_live, live, dead}
 use Rattle.std.proofs.lemmas.Grind.{common_steps}
@@ -50,3 +54,21 @@ list_all-take q (suc n) (x ∷ xs) all = by_test (q x) refl all (list_all-take q
 
 pub live_and_dead : (m : ℕ) (rows : List Message) → length (live m rows) + length (dead m rows) ≡ length rows
 live_and_dead m rows = length-filter_not (is_live m) rows
+
+-- where all rows are live, none goes
+pub live_all : (m : ℕ) (rows : List Message) → list_all (is_live m) rows ≡ true → (live m rows ≡ rows) × (dead m rows ≡ [])
+live_all m [] all = (refl, refl)
+live_all m (row ∷ rows) all = by_test (is_live m row) refl all (live_all m rows)
+  where
+    by_test : (b : Bool) → is_live m row ≡ b → list_all (is_live m) (row ∷ rows) ≡ true → (list_all (is_live m) rows ≡ true → (live m rows ≡ rows) × (dead m rows ≡ [])) → (live m (row ∷ rows) ≡ row ∷ rows) × (dead m (row ∷ rows) ≡ [])
+    by_test true is all more =
+        let rest = more (grind (arith, common_steps, all, is)) in
+        (rw is (ap (λ more. row ∷ more) rest.0), rw is rest.1)
+    by_test false is all more = absurd (grind (arith, common_steps, all, is))
+
+-- fewer rows than the limit
+pub store_rule-few : (part : QueuePart) (m : ℕ) → length part.rows < 100000 → store_rule part m ≡ None
+store_rule-few part m few =
+    let some : length (live m part.rows) ≤ length part.rows = omega (arith, live_and_dead m part.rows) in
+    let below : nat_le 100000 (length (live m part.rows)) ≡ false = grind (arith, nat_tests, some, few) in
+    rw below refl

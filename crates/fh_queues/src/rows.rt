@@ -1,6 +1,7 @@
 // How lists of rows change.
 ghost use Rattle.std.specs.Prelude.{◌≡◌, ◌+◌, ◌-◌, ◌≤◌, ◌∷◌, ◌++◌, [], not, length, map, filter, fold, vec_len, vec_capacity};
-ghost use Rattle.fh_queues.specs.Rows.{live, dead, is_of, with_change, without, IsPlaceOf};
+ghost use Rattle.std.specs.List.{list_all};
+ghost use Rattle.fh_queues.specs.Rows.{is_live, live, dead, is_of, with_change, without, IsPlaceOf};
 ghost use Rattle.fh_queues.specs.Part.{held, renewed, with_item, deleted, expired, rows_of};
 
 use crate::{End, Ending, Message};
@@ -66,6 +67,26 @@ pub(crate) fn remove(rows: &mut Vec<Message>, number: u64)
 
 /// Takes the rows out that aren't live, and notes their ends. There has to be room for these.
 pub(crate) fn sweep(rows: &mut Vec<Message>, ends: &mut Vec<End>, m: Moment)
+    requires { vec_len ends.old + vec_len rows.old ≤ vec_capacity ends.old }
+    ensures rows { rows.new.items ≡ live m rows.old.items }
+    ensures ends { ends.new.items ≡ ends.old.items ++ map expired (dead m rows.old.items) }
+    ensures room { vec_capacity ends.old ≤ vec_capacity ends.new }
+    ensures row_room { vec_capacity rows.new ≡ vec_capacity rows.old }
+    ensures each { vec_len ends.new + vec_len rows.new ≡ vec_len ends.old + vec_len rows.old }
+{
+    if are_live(rows, m) {
+        return;
+    }
+    drop_dead(rows, ends, m);
+}
+
+fn are_live(rows: &[Message], m: Moment) -> bool
+    ensures { result ≡ list_all (is_live m) rows.now }
+{
+    rows.iter().all(|row| row.is_live(m))
+}
+
+fn drop_dead(rows: &mut Vec<Message>, ends: &mut Vec<End>, m: Moment)
     requires { vec_len ends.old + vec_len rows.old ≤ vec_capacity ends.old }
     ensures rows { rows.new.items ≡ live m rows.old.items }
     ensures ends { ends.new.items ≡ ends.old.items ++ map expired (dead m rows.old.items) }

@@ -117,6 +117,10 @@ impl Queues {
     fn store_rule(&self, m: Moment) -> Option<Rule>
         ensures { result ≡ store_rule self.now.part m }
     {
+        // Of fewer rows than that fewer are live: no need to look at them.
+        if (self.lists.rows.len() as u64) < MOST_LIVE {
+            return None;
+        }
         let live = self.live(m);
         if MOST_LIVE <= live {
             return Some(Rule::StoreFull { live });
