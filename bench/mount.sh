@@ -53,7 +53,9 @@ int main(int count, char **words) {
 PROGRAM
 cc -O2 -o "$folder/write" "$folder/write.c"
 "$folder/write" "$puts" "$bytes" > "$folder/journal"
+# The program itself is timed, once it is built, and not the script that looks for changed sources.
 "$top/bin/fnhost" > /dev/null < /dev/null || true
+program=$top/crates/fnhost/out/fnhost
 
 now() { date +%s%N; }
 best_mount=0
@@ -65,7 +67,7 @@ for ((round = 0; round < rounds; round++)); do
     taken=$((end - begin))
     if ((best_read == 0 || taken < best_read)); then best_read=$taken; fi
     begin=$(now)
-    "$top/bin/fnhost" script "$folder/journal" "$folder/checkpoint" < /dev/null
+    "$program" script "$folder/journal" "$folder/checkpoint" < /dev/null
     end=$(now)
     taken=$((end - begin))
     if ((best_mount == 0 || taken < best_mount)); then best_mount=$taken; fi

@@ -41,7 +41,9 @@ int main(int count, char **words) {
 }
 PROGRAM
 cc -O2 -o "$folder/loop" "$folder/loop.c"
+# The program itself is timed, once it is built, and not the script that looks for changed sources.
 "$top/bin/fnhost" > /dev/null < /dev/null || true
+program=$top/crates/fnhost/out/fnhost
 {
     echo 'queue orders'
     for ((i = 0; i < puts; i++)); do echo 'put orders 0 -1 hi'; done
@@ -58,7 +60,7 @@ for ((round = 0; round < rounds; round++)); do
     if [ "$best_loop" -eq 0 ] || [ "$taken" -lt "$best_loop" ]; then best_loop=$taken; fi
     rm -f "$folder/journal"
     start=$(now)
-    cat "$folder/lines" | "$top/bin/fnhost" script "$folder/journal" "$folder/checkpoint" > /dev/null
+    cat "$folder/lines" | "$program" script "$folder/journal" "$folder/checkpoint" > /dev/null
     taken=$(($(now) - start))
     if [ "$best_host" -eq 0 ] || [ "$taken" -lt "$best_host" ]; then best_host=$taken; fi
 done
