@@ -6,8 +6,8 @@
 //! entry, and after any fault world and history are as before. At each moment of a step a crash leaves the
 //! history from before or the one with the step's entry, and after Ok that one alone. Where a step failed at
 //! its third or fourth call, the one with the failed entry stays possible until the next append has mended
-//! the journal. A file is refused exactly where it stands for no legal history, with the place of the first
-//! frame that is wrong, and is left as it is.
+//! the journal. A file is refused only for a broken frame, or, where no frame is, for an entry that is wrong
+//! behind a legal history, with the place of its gate, and is left as it is.
 #![tactic(auto)]
 
 mod asking;
