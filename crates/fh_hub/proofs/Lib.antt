@@ -1,5 +1,6 @@
 pub mod Sizes
 pub mod Crashes
+pub mod Histories
 pub mod Mounted
 pub mod Narrow
 pub mod Recording

@@ -1,6 +1,6 @@
 -- Why a journal isn't mounted.
 use Rattle.std.proofs.Common.{◌≡◌, inl, inr, ℕ, zero, suc, ◌+◌, ◌<◌, ◌≤◌, Bool, true, false, List, [], ◌∷◌, ◌++◌, length, take, drop, Option, Some, None, Ok, Err, refl, sym, ap, ◌∙◌, subst, arith, get_or, length-append}
-use Rattle.std.specs.Prelude.{nat_le, if◌then◌else◌, Result, IfErr}
+use Rattle.std.specs.Prelude.{nat_le, if◌then◌else◌, Result, IfErr, IfSome}
 use Rattle.std.specs.List.{flat_map}
 use Rattle.std.specs.Int.{w32, to_be_bytes}
 use Rattle.std.proofs.lemmas.Bool.Decides.{nat_tests}
@@ -12,13 +12,19 @@ use Rattle.fh_journal.specs.Keeping.{Keeps}
 use Rattle.fh_journal.specs.Mounting.{MountsTold, mounted_file, fresh_file}
 use Rattle.fh_journal.specs.declared.frames.Frame.{Frame}
 use Rattle.fh_journal.specs.declared.mounting.Prepared.{Prepared}
-use Rattle.fh_journal.proofs.Readings.{stands_once}
+use Rattle.fh_journal.specs.declared.faults.MountFault.{MountFault}
+use Rattle.fh_journal.specs.declared.faults.MountFault.TheVariants as frames
+use Rattle.fh_journal.proofs.Making.{short_journal}
+use Rattle.fh_journal.proofs.Readings.{stands_once, broken_journal, foreign_journal}
+use Rattle.fh_hub.proofs.Histories.{broken_history}
 use Rattle.fh_hub.specs.World.{World}
 use Rattle.fh_hub.specs.Replay.{Entry, payloads_of, replay, IsLegal, IsNext}
 use Rattle.fh_hub.specs.State.{HubState, world_of}
-use Rattle.fh_hub.specs.Mounting.{HasEntryReason, HasPlanReason, HasReplayReason, IsRefusedAt, MountsHistory, MountsBytes, fault_of_entry}
+use Rattle.fh_hub.specs.Hub.{StandsForHistory}
+use Rattle.fh_hub.specs.Mounting.{HasEntryReason, HasPlanReason, HasReplayReason, IsRefusedAt, BreaksEntryAt, MountsHistory, MountsBytes, fault_of_entry, fault_of_mount}
 use Rattle.fh_hub.specs.declared.faults.HubFault.{HubFault}
 use Rattle.fh_hub.specs.declared.faults.HubFault.TheVariants.{BadHeader, BadFrame, DiskFault, NoMemory}
+use Rattle.fh_hub.specs.declared.faults.HubRule.{HubRule}
 use Rattle.fh_hub.specs.declared.faults.HubRule.TheVariants.{Frame as OfFrame, Event, Refused}
 use Rattle.fh_hub.specs.declared.faults.EntryFault.{EntryFault}
 use Rattle.fh_hub.specs.declared.faults.EntryFault.TheVariants as entries
@@ -101,13 +107,20 @@ broken was now payloads gate fault stands is reason = by_length (nat_le (length 
     on_short DiskFault short small none r = absurd r
     on_short NoMemory short small none r = inr (short, small)
 
-    on_long : (f : HubFault) → now ≡ was → HasReplayReason payloads f → MountsBytes was now (Some f)
-    on_long BadHeader same r = absurd r
-    on_long (BadFrame at (OfFrame rule)) same r = absurd r.refused
-    on_long (BadFrame at (Event e)) same r = (same, record { payloads = payloads; gate = gate; stands = subst (λ (file : List ℕ). Stands file payloads gate) same stands; refused = r })
-    on_long (BadFrame at Refused) same r = (same, record { payloads = payloads; gate = gate; stands = subst (λ (file : List ℕ). Stands file payloads gate) same stands; refused = r })
-    on_long DiskFault same r = absurd r
-    on_long NoMemory same r = inl same
+    broken_at : (at : ℕ) (rule : HubRule) → now ≡ was → IsRefusedAt payloads at rule → BreaksEntryAt was at rule
+    broken_at at rule same r = record { payloads = payloads; gate = gate; stands = subst (λ (file : List ℕ). Stands file payloads gate) same stands; refused = r }
+
+    on_long : (f : HubFault) → 7 < length was → now ≡ was → HasReplayReason payloads f → MountsBytes was now (Some f)
+    on_long BadHeader long same r = absurd r
+    on_long (BadFrame at (OfFrame rule)) long same r = absurd r.refused
+    on_long (BadFrame at (Event e)) long same r =
+        let breaks = broken_at at (Event e) same r in
+        (same, breaks, λ history. broken_history was at (Event e) history long breaks)
+    on_long (BadFrame at Refused) long same r =
+        let breaks = broken_at at Refused same r in
+        (same, breaks, λ history. broken_history was at Refused history long breaks)
+    on_long DiskFault long same r = absurd r
+    on_long NoMemory long same r = inl same
 
     by_length : (short : Bool) → nat_le (length was) 7 ≡ short → MountsBytes was now (Some fault)
     by_length true test =
@@ -116,7 +129,7 @@ broken was now payloads gate fault stands is reason = by_length (nat_le (length 
         on_short fault (grind (arith, nat_tests, test)) (omega (arith, ap length fresh)) none reason
     by_length false test =
         let same : now ≡ was = is ∙ ap (λ (b : Bool). if b then fresh_file else was) test in
-        on_long fault same reason
+        on_long fault (grind (arith, nat_tests, test)) same reason
 
 mount_refused : (was now : Option (List ℕ)) (images : List ℕ → Type 0) (made : Prepared) (fault : HubFault) → Keeps now images false (payloads_in made.frames) [] made.gate → MountsTold was now (Ok made) → HasReplayReason (payloads_in made.frames) fault → MountsHistory was now (Some fault)
 mount_refused None now images made fault keeps mounts reason = mounts
@@ -126,3 +139,36 @@ mount_refused (Some was) (Some now) images made fault keeps mounts reason = brok
 pub refused_mount : {T : Type 0} (was now : Option (List ℕ)) (images : List ℕ → Type 0) (made : Prepared) (r : Result T HubFault) → Keeps now images false (payloads_in made.frames) [] made.gate → MountsTold was now (Ok made) → IfErr r (HasReplayReason (payloads_in made.frames)) → IfErr r (λ fault. MountsHistory was now (Some fault))
 refused_mount was now images made (Ok x) keeps mounts reason = tt
 refused_mount was now images made (Err fault) keeps mounts reason = mount_refused was now images made fault keeps mounts reason
+
+-- a file with a broken frame or another header stands for nothing
+pub frames_refused : (was now : Option (List ℕ)) (fault : MountFault) → MountsTold was now (Err fault) → MountsHistory was now (Some (fault_of_mount fault))
+frames_refused None now fault mounts = mounts
+frames_refused (Some was) None fault mounts = absurd mounts
+frames_refused (Some was) (Some now) frames.BadHeader mounts = (mounts.0, mounts.1, λ history legal. foreign_journal was (payloads_of history) mounts.1)
+frames_refused (Some was) (Some now) (frames.BadFrame at rule) mounts =
+    (mounts.0, mounts.2, λ history legal. broken_journal was at rule (payloads_of history) mounts.1 mounts.2)
+frames_refused (Some was) (Some now) frames.DiskFault mounts = mounts
+frames_refused (Some was) (Some now) frames.NoMemory mounts = mounts
+
+-- what the file stands for that a mount leaves, the file before it did
+pub stood_before : (was now : Option (List ℕ)) → MountsHistory was now None → (history : List Entry) → IfSome now (StandsForHistory history) → IfSome was (StandsForHistory history)
+stood_before None now mounted history stands = tt
+stood_before (Some was) None mounted history stands = absurd mounted
+stood_before (Some was) (Some now) mounted history stands = by_length (nat_le (length was) 7) refl
+  where
+    by_length : (short : Bool) → nat_le (length was) 7 ≡ short → StandsForHistory history was
+    by_length true short =
+        let fresh : now ≡ fresh_file = rw short at mounted in
+        inl (grind (arith, nat_tests), short_journal fresh_file (payloads_of history) (omega arith) (subst (λ (file : List ℕ). StandsForHistory history file) fresh stands))
+    by_length false long =
+        let same : now ≡ was = rw long at mounted in
+        subst (λ (file : List ℕ). StandsForHistory history file) same stands
+
+-- the file before a mount stood for the history that it found
+pub stood : (was now : Option (List ℕ)) (images : List ℕ → Type 0) (history : List Entry) (gate : ℕ) → MountsHistory was now None
+    → Keeps now images false (payloads_of history) [] gate → IfSome was (StandsForHistory history)
+stood was now images history gate mounted keeps = stood_before was now mounted history (as_read now keeps)
+  where
+    as_read : (told : Option (List ℕ)) → Keeps told images false (payloads_of history) [] gate → IfSome told (StandsForHistory history)
+    as_read None keeps = tt
+    as_read (Some file) keeps = inr (gate, keeps.as_read)

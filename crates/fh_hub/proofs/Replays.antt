@@ -3,11 +3,12 @@ use Rattle.std.proofs.Common.{◌≡◌, ℕ, ◌+◌, List, [], ◌∷◌, ◌+
 use Rattle.std.specs.Int.{w32, to_be_bytes}
 use Rattle.std.proofs.lemmas.List.{map_push}
 use Rattle.fh_event.specs.declared.reply.Reply.{Reply}
+use Rattle.fh_event.specs.Entries.{IsEntry}
 use Rattle.fh_journal.specs.Journal.{opened, frame}
 use Rattle.fh_journal.proofs.Bytes.{opened-push}
 use Rattle.fh_queues.specs.Outcome.{Outcome}
 use Rattle.fh_hub.specs.World.{World, empty, Recorded, step, world_with, reply_of}
-use Rattle.fh_hub.specs.Replay.{Entry, bytes_of, payloads_of, replay_from, replay, after, world_after, IsNext, IsLegalFrom, IsLegal}
+use Rattle.fh_hub.specs.Replay.{Entry, bytes_of, payloads_of, replay_from, replay, after, world_after, IsWritten, IsNext, IsLegalFrom, IsLegal}
 use Rattle.fh_hub.specs.State.{HubState, world_of, IsFaithful, IsPlanned}
 
 pub replay_from-push : (w : World) (history : List Entry) (e : Entry) → replay_from w (history ++ e ∷ []) ≡ after (replay_from w history) e
@@ -21,12 +22,15 @@ world_push s new e reply faithful grows steps =
     ∙ ap (λ w. after w e) (sym faithful)
     ∙ ap (world_after (world_of s)) steps)
 
-legal_from-push : (w : World) (history : List Entry) (e : Entry) → IsLegalFrom w history → IsNext (replay_from w history) e → IsLegalFrom w (history ++ e ∷ [])
-legal_from-push w [] e legal next = (next, tt)
-legal_from-push w (first ∷ history) e legal next = (legal.0, legal_from-push (after w first) history e legal.1 next)
+legal_from-push : (w : World) (history : List Entry) (e : Entry) → IsLegalFrom w history → IsWritten e → IsNext (replay_from w history) e → IsLegalFrom w (history ++ e ∷ [])
+legal_from-push w [] e legal written next = ((written, next), tt)
+legal_from-push w (first ∷ history) e legal written next = (legal.0, legal_from-push (after w first) history e legal.1 written next)
 
-pub legal_push : (history : List Entry) (e : Entry) → IsLegal history → IsNext (replay history) e → IsLegal (history ++ e ∷ [])
-legal_push history e legal next = legal_from-push empty history e legal next
+pub legal_push : (history : List Entry) (e : Entry) → IsLegal history → IsWritten e → IsNext (replay history) e → IsLegal (history ++ e ∷ [])
+legal_push history e legal written next = legal_from-push empty history e legal written next
+
+pub is_written : (payload : List ℕ) (e : Entry) → IsEntry payload e.moment e.command → IsWritten e
+is_written payload e is = subst (λ (bytes : List ℕ). IsEntry bytes e.moment e.command) is.spelling is
 
 pub payloads_push : (history : List Entry) (e : Entry) → payloads_of (history ++ e ∷ []) ≡ payloads_of history ++ bytes_of e ∷ []
 payloads_push history e = map_push bytes_of history e
@@ -39,7 +43,7 @@ gate_push payloads payload =
 -- the history of a faithful state goes on by a planned entry
 pub legal_planned : (s : HubState) (made : Outcome) (payload : List ℕ) (e : Entry) → IsFaithful s → IsPlanned s made payload e → IsLegal (s.history ++ e ∷ [])
 legal_planned s made payload e faithful planned =
-    legal_push s.history e faithful.legal
+    legal_push s.history e faithful.legal (is_written payload e planned.spelled)
     (subst (λ (w : World). IsNext w e) faithful.world (record {
       new = world_with (world_of s) made.0 e.moment (length payload);
       reply = reply_of made.1;

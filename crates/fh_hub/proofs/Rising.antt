@@ -67,7 +67,7 @@ own_from : (w : World) (entries : List Entry) → IsLegalFrom w entries → All 
 own_from w [] legal = All-nil HasOwnMoment
 own_from w (e ∷ entries) legal =
     All-append HasOwnMoment (event_of w e.command e.moment (step w e.command e.moment)) (trace_from (after w e) entries)
-    (own_by_step w e.command e.moment (step w e.command e.moment) legal.0.own_moment)
+    (own_by_step w e.command e.moment (step w e.command e.moment) legal.0.1.own_moment)
     (own_from (after w e) entries legal.1)
 
 pub own_moments : (history : List Entry) → IsLegal history → All HasOwnMoment (trace history)

@@ -9,6 +9,7 @@ use Rattle.fh_journal.specs.declared.faults.MountFault.{MountFault}
 use Rattle.fh_journal.specs.declared.faults.MountFault.TheVariants as mounts
 use Rattle.fh_hub.specs.World.{World}
 use Rattle.fh_hub.specs.Replay.{Entry, payloads_of, replay, IsLegal, IsNext}
+use Rattle.fh_hub.specs.Hub.{StandsForHistory}
 use Rattle.fh_hub.specs.declared.faults.HubFault.{HubFault}
 use Rattle.fh_hub.specs.declared.faults.HubFault.TheVariants.{BadHeader, BadFrame, DiskFault, NoMemory}
 use Rattle.fh_hub.specs.declared.faults.HubRule.{HubRule}
@@ -51,6 +52,10 @@ IsBrokenAt file at (Frame rule) = BreaksAt file at rule
 IsBrokenAt file at (Event fault) = BreaksEntryAt file at (Event fault)
 IsBrokenAt file at Refused = BreaksEntryAt file at Refused
 
+-- the file stands for no legal history
+abbrev pub StandsForNone : List ℕ → Type 0
+StandsForNone file = (history : List Entry) → IsLegal history → StandsForHistory history file → ⊥
+
 -- why the payloads of a journal aren't replayed
 abbrev pub HasReplayReason : List (List ℕ) → HubFault → Type 0
 HasReplayReason payloads BadHeader = ⊥
@@ -91,11 +96,12 @@ fault_of_mount (mounts.BadFrame at rule) = BadFrame at (Frame rule)
 fault_of_mount mounts.DiskFault = DiskFault
 fault_of_mount mounts.NoMemory = NoMemory
 
--- What a mount leaves of the bytes, and why it refuses a file. A file that is refused stays.
+-- What a mount leaves of the bytes, and why it refuses a file. A file that is refused stands for no legal history, and
+-- stays.
 abbrev pub MountsBytes : List ℕ → List ℕ → Option HubFault → Type 0
 MountsBytes was now None = now ≡ mounted_file was
-MountsBytes was now (Some BadHeader) = (now ≡ was) × IsForeign was
-MountsBytes was now (Some (BadFrame at rule)) = (now ≡ was) × IsBrokenAt was at rule
+MountsBytes was now (Some BadHeader) = (now ≡ was) × IsForeign was × StandsForNone was
+MountsBytes was now (Some (BadFrame at rule)) = (now ≡ was) × IsBrokenAt was at rule × StandsForNone was
 MountsBytes was now (Some DiskFault) = IsLeft was now
 MountsBytes was now (Some NoMemory) = IsLeft was now
 

@@ -2,7 +2,7 @@
 use Rattle.std.specs.Prelude.{◌≡◌, ◌≤◌, ⊤, ℕ, List, [], ◌∷◌, ◌++◌, map}
 use Rattle.fh_event.specs.declared.command.Command.{Command}
 use Rattle.fh_event.specs.declared.reply.Reply.{Reply}
-use Rattle.fh_event.specs.Entries.{entry}
+use Rattle.fh_event.specs.Entries.{entry, IsEntry}
 use Rattle.fh_hub.specs.World.{World, empty, Stepped, Refused, Read, Quieted, Recorded, step, effective_moment}
 
 -- a recorded command with its effective moment
@@ -13,6 +13,10 @@ pub record Entry : Type 0 where
 -- the bytes by which the journal keeps it
 abbrev pub bytes_of : Entry → List ℕ
 bytes_of e = entry e.moment e.command
+
+-- moment and numbers fit their fields, and texts are texts: what is written of it is read as the same
+abbrev pub IsWritten : Entry → Type 0
+IsWritten e = IsEntry (bytes_of e) e.moment e.command
 
 abbrev pub payloads_of : List Entry → List (List ℕ)
 payloads_of history = map bytes_of history
@@ -44,9 +48,9 @@ pub record IsNext (w : World) (e : Entry) : Type 0 where
 
 abbrev pub IsLegalFrom : World → List Entry → Type 0
 IsLegalFrom w [] = ⊤
-IsLegalFrom w (e ∷ entries) = IsNext w e × IsLegalFrom (after w e) entries
+IsLegalFrom w (e ∷ entries) = (IsWritten e × IsNext w e) × IsLegalFrom (after w e) entries
 
--- each entry is recorded in the world that the entries before it give
+-- each entry can be written, and is recorded in the world that the entries before it give
 abbrev pub IsLegal : List Entry → Type 0
 IsLegal history = IsLegalFrom empty history
 

@@ -61,6 +61,7 @@ impl<'d, J: Disk> Hub<'d, J> {
         ensures faithful { IfOk result (λ hub. IsFaithful hub.state) }
         ensures whole { IfOk result (λ hub. hub.journal.torn ≡ false) }
         ensures durable { IfOk result (λ hub. OnlyTold (J.told hub.journal.disk.now) (J.may_leave hub.journal.disk.now)) }
+        ensures stood { IfOk result (λ hub. IfSome (J.told disk.entry.now) (StandsForHistory hub.state.history)) }
         ensures mounted { IfOk result (λ hub. MountsHistory (J.told disk.entry.now) (J.told hub.journal.disk.now) None) }
         ensures refused { IfErr result (λ refused. MountsHistory (J.told disk.entry.now) (J.told refused.1.now) (Some refused.0)) }
         ensures fault { IfErr result (λ refused. refused.0 ≡ HubFault.DiskFault

@@ -1,11 +1,24 @@
-//! What holds of every history. The world and the history of a hub are such a pair.
+//! What holds of every file and of every history. The world and the history of a hub are such a pair.
 
-ghost use Rattle.std.specs.Prelude.{ℕ, ◌≤◌, List};
+ghost use Rattle.std.specs.Prelude.{◌≡◌, ◌<◌, ℕ, ◌≤◌, List, length};
 ghost use Rattle.std.specs.List.{All};
 ghost use Rattle.fh_hub.specs.Replay.{Entry, trace, replay, IsLegal};
+ghost use Rattle.fh_hub.specs.Hub.{StandsForHistory};
+ghost use Rattle.fh_hub.specs.Mounting.{IsBrokenAt, StandsForNone};
+ghost use Rattle.fh_hub.specs.declared.faults.HubRule.{HubRule};
 ghost use Rattle.fh_hub.specs.Laws.{births, receipts};
 ghost use Rattle.fh_hub.specs.Places.{IsInOnePlace, IsLocated};
 ghost use Rattle.fh_hub.specs.Guards.{GuardsMessages, RisesOver, HasOwnMoment};
+
+/// A file stands for one legal history at most, or is broken first at one place by one rule; where it has
+/// more than 7 bytes, not both.
+pub fn files_have_one_history()
+    ensures one { (file : List ℕ) (history other : List Entry) → IsLegal history → IsLegal other
+        → StandsForHistory history file → StandsForHistory other file → history ≡ other }
+    ensures broken { (file : List ℕ) (at : ℕ) (rule : HubRule) → 7 < length file → IsBrokenAt file at rule → StandsForNone file }
+    ensures first { (file : List ℕ) (at place : ℕ) (rule other : HubRule)
+        → IsBrokenAt file at rule → IsBrokenAt file place other → (at ≡ place) × (rule ≡ other) }
+{}
 
 /// A number is given to one message at most.
 pub fn numbers_are_given_once()

@@ -1,13 +1,14 @@
 //! The hub: one world over the stores, with its history in a journal.
 //!
-//! Promised to the layers above, where the disk tells: a hub that was mounted has the history that the file
-//! stands for, and its world is that history's replay. A step answers what the machine of specs/World.antt
-//! does, or want of memory, or a disk fault, whose count then rose; a recorded one adds exactly its own
-//! entry, and after any fault world and history are as before. At each moment of a step a crash leaves the
-//! history from before or the one with the step's entry, and after Ok that one alone. Where a step failed at
-//! its third or fourth call, the one with the failed entry stays possible until the next append has mended
-//! the journal. A file is refused only for a broken frame, or, where no frame is, for an entry that is wrong
-//! behind a legal history, with the place of its gate, and is left as it is.
+//! Promised to the layers above, where the disk tells: a journal is mounted exactly where its file stands
+//! for a legal history, unless the disk or memory fails; the hub then has that history, and its world is
+//! the history's replay. Any other file is left as it is, and refused for its header, its first broken
+//! frame, or, where no frame is broken, its first wrong entry. A step answers what the machine of
+//! specs/World.antt does, or want of memory, or a disk fault, whose count then rose; a recorded one adds
+//! exactly its own entry, and after any fault world and history are as before. At each moment of a step a
+//! crash leaves the history from before or the one with the step's entry, and after Ok that one alone.
+//! Where a step failed at its third or fourth call, the one with the failed entry stays possible until
+//! the next append has mended the journal.
 #![tactic(auto)]
 
 mod asking;
@@ -23,8 +24,9 @@ pub use faults::{HubFault, HubRule};
 pub use history::History;
 pub use hub::Hub;
 pub use laws::{
-    legal_events_have_their_moments, messages_are_in_one_place, messages_are_located,
-    numbers_are_given_once, receipts_are_given_once, receipts_guard_messages, receipts_only_rise,
+    files_have_one_history, legal_events_have_their_moments, messages_are_in_one_place,
+    messages_are_located, numbers_are_given_once, receipts_are_given_once, receipts_guard_messages,
+    receipts_only_rise,
 };
 pub use mounting::prepare;
 pub use plan::{Change, Plan, Staged};

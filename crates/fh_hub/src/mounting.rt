@@ -26,11 +26,13 @@ use std::alloc::Global;
 /// Mounts a journal: its frames are read, and their entries are replayed. It begins with a sync. A file of
 /// at most 7 bytes stands for no entries, and is made anew where it isn't exactly that; nothing else is
 /// written, and a file that is refused stays as it is.
+#[tactic(auto, using(crate::proofs::Mounted::frames_refused, crate::proofs::Mounted::stood))]
 pub fn prepare<J: Disk>(alloc: Global, disk: &mut J) -> Result<State, HubFault>
     ensures stands { IfOk result (λ state. Keeps (J.told disk.new) (J.may_leave disk.new) false (payloads_of state.history) [] state.gate) }
     ensures faithful { IfOk result IsFaithful }
     ensures idle { IfOk result IsIdle }
     ensures durable { OnOk result (OnlyTold (J.told disk.new) (J.may_leave disk.new)) }
+    ensures stood { IfOk result (λ state. IfSome (J.told disk.old) (StandsForHistory state.history)) }
     ensures mounted { OnOk result (MountsHistory (J.told disk.old) (J.told disk.new) None) }
     ensures refused { IfErr result (λ fault. MountsHistory (J.told disk.old) (J.told disk.new) (Some fault)) }
     ensures fault { IsErrOf result HubFault.DiskFault → Rose (J.disk_faults disk.old) (J.disk_faults disk.new) }

@@ -19,20 +19,6 @@ use Rattle.fh_hub.specs.declared.faults.HubFault.TheVariants as mounts
 use Rattle.fh_script.specs.declared.ends.End.{End}
 use Rattle.fh_script.specs.declared.ends.End.TheVariants.{Finished, Usage, BadHeader, BadFrame, ReadFault, DiskFault, WriteFault, LongLine, NoMemory}
 
--- what the file stands for that a mount leaves, the file before it did
-pub stood_before : (was now : Option (List ℕ)) → MountsHistory was now None → (history : List Entry) → IfSome now (StandsForHistory history) → IfSome was (StandsForHistory history)
-stood_before None now mounted history stands = tt
-stood_before (Some was) None mounted history stands = absurd mounted
-stood_before (Some was) (Some now) mounted history stands = by_length (nat_le (length was) 7) refl
-  where
-    by_length : (short : Bool) → nat_le (length was) 7 ≡ short → StandsForHistory history was
-    by_length true short =
-        let fresh : now ≡ fresh_file = rw short at mounted in
-        inl (grind (arith, nat_tests), short_journal fresh_file (payloads_of history) (omega arith) (subst (λ (file : List ℕ). StandsForHistory history file) fresh stands))
-    by_length false long =
-        let same : now ≡ was = rw long at mounted in
-        subst (λ (file : List ℕ). StandsForHistory history file) same stands
-
 module _ (was mid now : Outside) (left : mid.left ≡ was.left) (written : mid.written ≡ was.written)
     (stood : (history : List Entry) → IfSome mid.told (StandsForHistory history) → IfSome was.told (StandsForHistory history)) (leaves_mid leaves : Imaging)
     (leave : (opening : List Entry) (P : List ℕ → Type 0) → IfSome mid.told (StandsForHistory opening) → ((c : List ℕ) → StandsForHistory opening c → P c)

@@ -4,8 +4,9 @@ use Rattle.fh_journal.specs.Keeping.{StaysTold}
 use Rattle.fh_hub.specs.Hub.{StandsForHistory}
 use Rattle.fh_hub.specs.Mounting.{MountsHistory}
 use Rattle.fh_hub.specs.Replay.{Entry}
+use Rattle.fh_hub.proofs.Mounted.{stood_before}
 use Rattle.fh_script.proofs.Imaging.{from_mounting, while_mounting}
-use Rattle.fh_script.proofs.Starting.{stood_before, from_start, from_disk, not_mounted}
+use Rattle.fh_script.proofs.Starting.{from_start, from_disk, not_mounted}
 use Rattle.fh_script.proofs.running.run.Goals as goal
 
 pub returns-in-Err-clause-reason : goal.returns-in-Err-clause-reason

@@ -8,7 +8,7 @@ use Rattle.fh_queues.specs.Part.{QueuePart}
 use Rattle.fh_hub.specs.World.{World, step, Recorded, world_with, reply_of}
 use Rattle.fh_hub.specs.Replay.{Entry, replay, IsLegal, IsNext, payloads_of}
 use Rattle.fh_hub.specs.State.{HubState, world_of, IsPlanned}
-use Rattle.fh_hub.proofs.Replays.{world_push, legal_push, payloads_push, gate_push}
+use Rattle.fh_hub.proofs.Replays.{world_push, legal_push, payloads_push, gate_push, is_written}
 use Rattle.fh_hub.proofs.Spelling.{is_spelled, entry_is}
 use Rattle.fh_hub.proofs.state.State.settle.Goals as goal
 
@@ -39,7 +39,7 @@ invariant_of-self g c =
     let pushed : payloads_of new.history ≡ payloads_of before.history ++ payload ∷ [] = ap payloads_of grows ∙ payloads_push before.history g.e ∙ ap (λ (p : List ℕ). payloads_of before.history ++ p ∷ []) (sym planned.spelled.spelling) in
     record {
       world = world_push before new g.e (reply_of made_now.1) c.self.invariant.world grows steps;
-      legal = subst IsLegal (sym grows) (legal_push before.history g.e c.self.invariant.legal next);
+      legal = subst IsLegal (sym grows) (legal_push before.history g.e c.self.invariant.legal (is_written payload g.e planned.spelled) next);
       place = omega (arith, gate_is, c.self.invariant.place, ap (λ (ps : List (List ℕ)). length (opened ps)) pushed, gate_push (payloads_of before.history) payload);
       within = omega (arith, gate_is, planned.room);
       timed = c.ms-self-inside.ensures.range;
