@@ -4,23 +4,8 @@ ghost use Rattle.std.specs.Prelude.{◌≡◌};
 ghost use Rattle.fh_exprs.specs.declared.fault.ExprFault.TheVariants.{NoMemory as WantOfMemory};
 
 use crate::text::Text;
+use fh_base::NoMemory;
 use std::alloc::{AllocError, AllocFailed};
-
-/// Memory was refused.
-#[derive(Clone, Copy, Debug, PartialEq, Eq)]
-pub struct NoMemory;
-
-impl From<AllocError> for NoMemory {
-    fn from(_e: AllocError) -> NoMemory {
-        NoMemory
-    }
-}
-
-impl<T: Drop> From<AllocFailed<T>> for NoMemory {
-    fn from(_e: AllocFailed<T>) -> NoMemory {
-        NoMemory
-    }
-}
 
 /// The first fault of an expression.
 #[derive(Debug, Drop)]

@@ -23,7 +23,7 @@ mod template;
 mod text;
 mod values;
 
-pub use fault::{ExprFault, NoMemory};
+pub use fault::ExprFault;
 pub use pairs::Pairs;
 pub use pattern::Pattern;
 pub use settings::Settings;

@@ -8,9 +8,9 @@ ghost use Rattle.std.specs.Prelude.{◌≡◌, ◌≢◌, ◌++◌, [], List, �
 ghost use Rattle.fh_exprs.specs.Layout.{Layout, layout_of};
 ghost use Rattle.fh_exprs.specs.Matching.{IsFilledText, IsReading, ReadsAs, IsTail, EndsAs, IsLastCut, HasNoCut};
 
-use crate::fault::NoMemory;
 use crate::form::Place;
 use crate::text::Text;
+use fh_base::NoMemory;
 use std::alloc::{AllocError, Global};
 
 /// The names of the places with the texts of the greatest reading.

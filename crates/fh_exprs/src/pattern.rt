@@ -3,11 +3,12 @@
 ghost use Rattle.std.specs.Prelude.{◌≡◌, Ok, IfOk, MatchOption, List, ℕ};
 ghost use Rattle.fh_exprs.specs.Answers.{Gives};
 
-use crate::fault::{ExprFault, NoMemory};
+use crate::fault::ExprFault;
 use crate::form::{Form, Naming};
 use crate::matching;
 use crate::settings::Settings;
 use crate::text::Text;
+use fh_base::NoMemory;
 use std::alloc::Global;
 use std::marker::Model;
 
