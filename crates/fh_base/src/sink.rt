@@ -114,7 +114,11 @@ pub struct StreamSink<W: Write> {
 }
 
 impl<W: Write> StreamSink<W> {
-    pub fn new(writer: W) -> StreamSink<W> {
+    /// Nothing is written yet.
+    pub fn new(writer: W) -> StreamSink<W>
+        ensures writer { result.writer ≡ writer }
+        ensures faults { result.faults ≡ 0 }
+    {
         StreamSink { writer, faults: 0 }
     }
 }

@@ -126,7 +126,10 @@ pub struct StreamSource<R: Read> {
 
 impl<R: Read + Drop> StreamSource<R> {
     /// Nothing is read yet. The buffer of the read-ahead is taken here.
-    pub fn new(alloc: Global, reader: R) -> Result<StreamSource<R>, NoMemory> {
+    pub fn new(alloc: Global, reader: R) -> Result<StreamSource<R>, NoMemory>
+        ensures given { IfOk result (λ source. source.given ≡ 0) }
+        ensures faults { IfOk result (λ source. source.faults ≡ 0) }
+    {
         match BufReader::new(alloc, reader) {
             Ok(reader) => Ok(StreamSource {
                 reader,

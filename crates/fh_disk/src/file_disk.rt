@@ -26,7 +26,13 @@ pub struct FileDisk<R: Files> {
 }
 
 impl<R: Files> FileDisk<R> {
-    pub fn new(runtime: R, path: String) -> FileDisk<R> {
+    /// The file of this path, which isn't opened before the first call.
+    pub fn new(runtime: R, path: String) -> FileDisk<R>
+        ensures runtime { result.runtime ≡ runtime }
+        ensures path { result.path ≡ path }
+        ensures unopened { result.file ≡ None }
+        ensures faults { result.faults ≡ 0 }
+    {
         FileDisk {
             runtime,
             path,
