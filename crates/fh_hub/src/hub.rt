@@ -23,7 +23,7 @@ pub struct Hub<'d, J: Disk> {
 }
 
 impl<'d, J: Disk> Hub<'d, J> {
-    ghost use Rattle.std.specs.Prelude.{◌≡◌, ◌⊎◌, ◌≤◌, ◌∷◌, ◌++◌, [], true, false, List, None, Some, IfOk, IfErr, OnOk, OnErr, IfSome, MatchResult};
+    ghost use Rattle.std.specs.Prelude.{◌≡◌, ◌⊎◌, ◌≤◌, ◌∷◌, ◌++◌, [], true, false, List, None, Some, IfOk, IfErr, OnOk, OnErr, IfSome, IsErrOf, MatchResult};
     ghost use Rattle.fh_base.specs.Faults.{Rose};
     ghost use Rattle.fh_base.specs.Moments.{greatest_moment};
     ghost use Rattle.fh_disk.specs.Disk.{OnlyTold};
@@ -125,6 +125,8 @@ impl<'d, J: Disk> Hub<'d, J> {
         ensures fault { OnErr result (IsUnchanged self.old.state self.new.state) }
         ensures untouched { is_recorded (step (world_of self.old.state) command.now now) ≡ false
             → (self.new.journal.disk.now ≡ self.old.journal.disk.now) × (self.new.journal.torn ≡ self.old.journal.torn) }
+        ensures memory { IsErrOf result StepFault.NoMemory
+            → (self.new.journal.disk.now ≡ self.old.journal.disk.now) × (self.new.journal.torn ≡ self.old.journal.torn) }
         ensures keeps { (failed : Entry) → KeepsIn self.old failed
             → KeepsIn self.new failed ⊎ KeepsIn self.new (entry_at self.old.state command.now now) }
         ensures durable { is_recorded (step (world_of self.old.state) command.now now) ≡ true → OnOk result (IsDurable self.new) }
@@ -151,6 +153,8 @@ impl<'d, J: Disk> Hub<'d, J> {
         ensures reply { IfOk result (λ reply. step (world_of self.old.state) e.command e.moment ≡ Recorded (world_of self.new.state) reply) }
         ensures history { OnOk result (self.new.state.history ≡ self.old.state.history ++ e ∷ []) }
         ensures fault { OnErr result (IsUnchanged self.old.state self.new.state) }
+        ensures memory { IsErrOf result StepFault.NoMemory
+            → (self.new.journal.disk.now ≡ self.old.journal.disk.now) × (self.new.journal.torn ≡ self.old.journal.torn) }
         ensures cause { IfErr result (HasStepCause (faults_of self.old) (faults_of self.new)) }
         ensures keeps { (failed : Entry) → KeepsIn self.old failed → KeepsIn self.new failed ⊎ KeepsIn self.new e }
         ensures durable { OnOk result (IsDurable self.new) }

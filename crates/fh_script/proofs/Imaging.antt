@@ -1,14 +1,16 @@
 -- What each image stands for since the first line.
 use Rattle.std.proofs.Common.{◌≡◌, ◌⊎◌, inl, inr, ⊎_elim, ℕ, List, [], ◌++◌, Option, Some, None, IfSome, sym, ◌∙◌, ap, subst, append_assoc, append-nil}
 use Rattle.fh_disk.specs.Moments.{LeavesOnly}
+use Rattle.fh_disk.specs.declared.disk.Disk.{Ghosts}
 use Rattle.fh_journal.specs.Keeping.{StaysTold}
 use Rattle.fh_journal.specs.Mounting.{IsBeingMade}
 use Rattle.fh_journal.proofs.Moments.{joins, widens, where_told, where_both}
 use Rattle.fh_hub.specs.Hub.{StandsForHistory}
 use Rattle.fh_hub.specs.Replay.{Entry}
-use Rattle.fh_script.specs.Session.{Holds, StandsEither}
+use Rattle.fh_script.specs.declared.session.Session.{Session}
+use Rattle.fh_script.specs.Session.{Holds, LacksMemory, StandsEither}
 use Rattle.fh_script.specs.Script.{StandsForPart}
-use Rattle.fh_script.proofs.Steps.{leaves_as_was}
+use Rattle.fh_script.proofs.Steps.{leaves_as_was, stands}
 
 part_grows : (opening history entries : List Entry) (c : List ℕ) → StandsForPart opening history c → StandsForPart opening (history ++ entries) c
 part_grows opening history entries c it = record {
@@ -93,3 +95,26 @@ opening_part opening history behind c grows stands = record {
   whole = grows;
   stands = subst (λ (h : List Entry). StandsForHistory h c) (sym (append-nil opening)) stands;
 }
+
+-- where memory was refused for a line, nothing was done since, or the line was
+pub without_memory : {D : Type 0} {J : Ghosts D} (first : D) (opening : List Entry) (old new : Session D J) (entries : List Entry)
+    → IfSome (J.told first) (λ _. LeavesOnly J.moment J.left_since first old.hub.journal.disk.now (StandsForPart opening old.hub.state.history))
+    → LacksMemory old new entries
+    → (IfSome (J.told new.hub.journal.disk.now) (StandsForHistory old.hub.state.history)
+    × IfSome (J.told first) (λ _. LeavesOnly J.moment J.left_since first new.hub.journal.disk.now (StandsForPart opening old.hub.state.history)))
+    ⊎ IfSome (J.told new.hub.journal.disk.now) (StandsForHistory (old.hub.state.history ++ entries))
+without_memory {D} {J} first opening old new entries images it = by_case it.made
+  where
+    stands_now : IfSome (J.told new.hub.journal.disk.now) (StandsForHistory new.hub.state.history)
+    stands_now = stands (J.told new.hub.journal.disk.now) (J.may_leave new.hub.journal.disk.now) new.hub.state.history new.hub.journal.gate it.holds
+
+    by_case : (new.hub.journal.disk.now ≡ old.hub.journal.disk.now) × (new.hub.state.history ≡ old.hub.state.history)
+        ⊎ (new.hub.state.history ≡ old.hub.state.history ++ entries)
+        → (IfSome (J.told new.hub.journal.disk.now) (StandsForHistory old.hub.state.history)
+        × IfSome (J.told first) (λ _. LeavesOnly J.moment J.left_since first new.hub.journal.disk.now (StandsForPart opening old.hub.state.history)))
+        ⊎ IfSome (J.told new.hub.journal.disk.now) (StandsForHistory (old.hub.state.history ++ entries))
+    by_case (inl same) = inl (
+      subst (λ (h : List Entry). IfSome (J.told new.hub.journal.disk.now) (StandsForHistory h)) same.1 stands_now,
+      subst (λ (d : D). IfSome (J.told first) (λ _. LeavesOnly J.moment J.left_since first d (StandsForPart opening old.hub.state.history))) (sym same.0) images,
+    )
+    by_case (inr grown) = inr (subst (λ (h : List Entry). IfSome (J.told new.hub.journal.disk.now) (StandsForHistory h)) grown stands_now)

@@ -9,7 +9,7 @@ use Rattle.fh_hub.specs.declared.faults.HubFault.{HubFault}
 use Rattle.fh_hub.specs.declared.faults.HubFault.TheVariants as mounts
 use Rattle.fh_script.specs.Concluding.{Concludes}
 use Rattle.fh_script.specs.Ends.{code_of, last_line}
-use Rattle.fh_script.specs.Script.{Outside, Imaging, Wrote, Answered, AnsweredAll, AnsweredBefore, CutOff, Unmounted, HasLinesReason, HasReason, EndsBy}
+use Rattle.fh_script.specs.Script.{Outside, Imaging, Wrote, Answered, AnsweredAll, AnsweredBefore, Unwritten, CutOff, Unmounted, HasLinesReason, HasReason, EndsBy}
 use Rattle.fh_script.specs.declared.ends.End.{End}
 use Rattle.fh_script.specs.declared.ends.End.TheVariants.{Finished, Usage, BadHeader, BadFrame, ReadFault, DiskFault, WriteFault, LongLine, NoMemory}
 
@@ -57,12 +57,28 @@ module _ (was mid : Outside) (leaves : Imaging) (written : Option (List ℕ)) (f
 
   answered_before_behind : (behind : List ℕ) → AnsweredBefore was mid leaves [] → Appends mid.written written behind
       → AnsweredBefore was (record mid { written = written; write_faults = faults }) leaves behind
+  unfolding wrote_behind
   answered_before_behind behind it writes = record {
     opening = it.opening;
     done = it.done;
     line = it.line;
     more = it.more;
     wrote = wrote_behind it.opening it.done (it.line ∷ it.more) behind it.wrote writes;
+    only = it.only;
+    stands = it.stands;
+    images = it.images;
+  }
+
+  unwritten_behind : (behind : List ℕ) → Unwritten was mid leaves [] → Appends mid.written written behind
+      → Unwritten was (record mid { written = written; write_faults = faults }) leaves behind
+  unfolding wrote_behind
+  unwritten_behind behind it writes = record {
+    opening = it.opening;
+    done = it.done;
+    line = it.line;
+    more = it.more;
+    wrote = wrote_behind it.opening it.done (it.line ∷ it.more) behind it.wrote writes;
+    only = it.only;
     stands = it.stands;
     images = it.images;
   }
@@ -88,6 +104,7 @@ module _ (was mid : Outside) (leaves : Imaging) (written : Option (List ℕ)) (f
           subst (λ (t : List ℕ). Appends was.written written t) (append-nil ((run it.opening it.done).written ++ take it.written text))
           (appends-append was.written mid.written written _ [] it.wrote.texts writes);
     };
+    only = it.only;
     stands = it.stands;
     images = it.images;
   }
@@ -116,7 +133,7 @@ module _ (was mid : Outside) (leaves : Imaging) (written : Option (List ℕ)) (f
       (rose_on was.write_faults later reason.0, cut_off_behind reason.1 (subst (λ (t : List ℕ). Appends mid.written written t) (take-nothing n) writes))
   lines_reason_behind LongLine n reason later writes = (reason.0, (reason.1.0, answered_behind reason.0 _ reason.1.1 writes))
   lines_reason_behind NoMemory n (inl reason) later writes = inl (reason.0, answered_behind reason.0 _ reason.1 writes)
-  lines_reason_behind NoMemory n (inr reason) later writes = inr (answered_before_behind _ reason writes)
+  lines_reason_behind NoMemory n (inr reason) later writes = inr (unwritten_behind _ reason writes)
 
   reason_behind : (end : End) (n : ℕ) → HasReason was mid leaves [] end → mid.write_faults ≤ faults → Appends mid.written written (take n (last_line end))
       → HasReason was (record mid { written = written; write_faults = faults }) leaves (take n (last_line end)) end

@@ -10,7 +10,7 @@ use Rattle.fh_hub.specs.Mounting.{MountsHistory}
 use Rattle.fh_hub.specs.Replay.{Entry, payloads_of}
 use Rattle.fh_script.specs.Machine.{run}
 use Rattle.fh_script.proofs.Imaging.{opening_part}
-use Rattle.fh_script.specs.Script.{Outside, Imaging, HasLines, joined, Wrote, Answered, AnsweredAll, AnsweredBefore, CutOff, Unmounted, IsLongNext, HasLinesReason, HasReason}
+use Rattle.fh_script.specs.Script.{Outside, Imaging, HasLines, joined, Wrote, Answered, AnsweredAll, AnsweredBefore, Unwritten, CutOff, Unmounted, IsLongNext, HasLinesReason, HasReason}
 use Rattle.fh_hub.specs.declared.faults.HubRule.{HubRule}
 use Rattle.fh_hub.specs.declared.faults.HubFault.{HubFault}
 use Rattle.fh_script.specs.Ends.{end_of_mount}
@@ -49,19 +49,35 @@ module _ (was mid now : Outside) (left : mid.left ≡ was.left) (written : mid.w
   from_all it = record { more = it.more; answered = from_answered it.more it.answered; feeds = it.feeds }
 
   from_before : AnsweredBefore mid now leaves_mid [] → AnsweredBefore was now leaves []
+  unfolding from_wrote
   from_before it = record {
     opening = it.opening;
     done = it.done;
     line = it.line;
     more = it.more;
     wrote = from_wrote it.opening it.done (it.line ∷ it.more) [] it.wrote;
+    only = it.only;
     stands = it.stands;
     images =
         leave it.opening _ it.wrote.stood
         (λ c. opening_part it.opening _ _ c (append_assoc it.opening (run it.opening it.done).entries _)) it.images;
   }
 
+  from_unwritten : Unwritten mid now leaves_mid [] → Unwritten was now leaves []
+  unfolding from_wrote
+  from_unwritten it = record {
+    opening = it.opening;
+    done = it.done;
+    line = it.line;
+    more = it.more;
+    wrote = from_wrote it.opening it.done (it.line ∷ it.more) [] it.wrote;
+    only = it.only;
+    stands = it.stands;
+    images = leave it.opening _ it.wrote.stood (λ c. opening_part it.opening _ (run it.opening (it.done ++ it.line ∷ [])).entries c refl) it.images;
+  }
+
   from_cut_off : CutOff mid now leaves_mid → CutOff was now leaves
+  unfolding from_wrote
   from_cut_off it = record {
     opening = it.opening;
     done = it.done;
@@ -70,6 +86,7 @@ module _ (was mid now : Outside) (left : mid.left ≡ was.left) (written : mid.w
     written = it.written;
     part = it.part;
     wrote = from_wrote it.opening it.done (it.line ∷ it.more) _ it.wrote;
+    only = it.only;
     stands = it.stands;
     images = leave it.opening _ it.wrote.stood (λ c. opening_part it.opening _ (run it.opening (it.done ++ it.line ∷ [])).entries c refl) it.images;
   }
@@ -97,7 +114,7 @@ from_start was mid now leaves_mid leaves WriteFault left written reads writes di
 from_start was mid now leaves_mid leaves LongLine left written reads writes disk stood leave reason =
     (reason.0, (subst (λ (l : Option (List ℕ)). IsLongNext l reason.0) left reason.1.0, from_answered was mid now left written stood leaves_mid leaves leave reason.0 reason.1.1))
 from_start was mid now leaves_mid leaves NoMemory left written reads writes disk stood leave (inl reason) = inr (inl (reason.0, from_answered was mid now left written stood leaves_mid leaves leave reason.0 reason.1))
-from_start was mid now leaves_mid leaves NoMemory left written reads writes disk stood leave (inr reason) = inr (inr (from_before was mid now left written stood leaves_mid leaves leave reason))
+from_start was mid now leaves_mid leaves NoMemory left written reads writes disk stood leave (inr reason) = inr (inr (from_unwritten was mid now left written stood leaves_mid leaves leave reason))
 
 -- memory was refused for the last line of a file that isn't mounted
 pub without_memory : (was now : Outside) (leaves : Imaging) (at : ℕ) (rule : HubRule) → Unmounted was now leaves (mounts.BadFrame at rule) [] → Unmounted was now leaves mounts.NoMemory []

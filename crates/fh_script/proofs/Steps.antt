@@ -5,6 +5,7 @@ use Rattle.fh_event.specs.declared.command.Command.{Command}
 use Rattle.fh_journal.specs.Keeping.{Keeps, StaysTold}
 use Rattle.fh_journal.specs.Journal.{IsJournalOf, MayReadAs}
 use Rattle.fh_journal.proofs.Bytes.{reads}
+use Rattle.fh_journal.proofs.Readings.{journal_once}
 use Rattle.fh_journal.proofs.Moments.{widens, where_told}
 use Rattle.fh_hub.specs.World.{Stepped, Refused, Read, Quieted, Recorded}
 use Rattle.fh_hub.specs.Hub.{KeepsHistory, MayStandFor, StandsForHistory, is_recorded}
@@ -12,7 +13,13 @@ use Rattle.fh_hub.specs.History.{entry_of}
 use Rattle.fh_hub.specs.Replay.{Entry, bytes_of, payloads_of, noted_of}
 use Rattle.fh_hub.proofs.Crashes.{untouched}
 use Rattle.fh_hub.proofs.Replays.{payloads_push}
-use Rattle.fh_script.specs.Session.{Holds, StandsEither}
+use Rattle.fh_hub.specs.declared.faults.HubFault.{HubFault}
+use Rattle.fh_hub.specs.declared.faults.HubFault.TheVariants as mounts
+use Rattle.fh_script.specs.Ends.{code_of, end_of_mount}
+use Rattle.fh_script.specs.Script.{SurvivesCrash, is_certain}
+use Rattle.fh_script.specs.Session.{Holds, HasStopCause, StandsEither}
+use Rattle.fh_script.specs.declared.ends.End.{End}
+use Rattle.fh_script.specs.declared.ends.End.TheVariants.{Finished, Usage, BadHeader, BadFrame, ReadFault, DiskFault, WriteFault, LongLine, NoMemory}
 
 -- whatever entry may have failed, since none did
 pub kept : (told : Option (List ℕ)) (images : List ℕ → Type 0) (torn : Bool) (history : List Entry) (failed : Entry) (gate : ℕ) → torn ≡ false
@@ -58,6 +65,34 @@ pub stands_before : (told : Option (List ℕ)) (images : List ℕ → Type 0) (h
     → Holds told images history gate → IfSome told (StandsEither history entries)
 stands_before None images history entries gate holds = tt
 stands_before (Some file) images history entries gate holds = inl (inr (gate, holds.as_read))
+
+-- what the file stands for, each image stands for too
+pub survives : (told : Option (List ℕ)) (images : List ℕ → Type 0) (history : List Entry) (gate : ℕ)
+    → Holds told images history gate → SurvivesCrash told images
+survives None images history gate holds = tt
+survives (Some file) images history gate holds = λ other c stands left.
+    subst (λ (ps : List (List ℕ)). IsJournalOf c ps)
+    (journal_once file (payloads_of history) (payloads_of other) (inr (gate, holds.as_read)) stands)
+    (inr (gate, holds.after_crash c left))
+
+-- a line that has no answer leaves something in doubt, or is for want of memory
+pub in_doubt : (before after : ℕ) (end : End) → HasStopCause before after end → is_certain (code_of end) ≡ true → ⊥
+in_doubt before after Finished cause certain = absurd cause
+in_doubt before after Usage cause certain = absurd cause
+in_doubt before after BadHeader cause certain = absurd cause
+in_doubt before after (BadFrame at rule) cause certain = absurd cause
+in_doubt before after ReadFault cause certain = absurd cause
+in_doubt before after DiskFault cause certain = absurd (cc)
+in_doubt before after WriteFault cause certain = absurd cause
+in_doubt before after LongLine cause certain = absurd cause
+in_doubt before after NoMemory cause certain = absurd (cc)
+
+-- a journal that isn't mounted is no certain end
+pub unmounted_in_doubt : (fault : HubFault) → is_certain (code_of (end_of_mount fault)) ≡ true → ⊥
+unmounted_in_doubt mounts.BadHeader certain = absurd (cc)
+unmounted_in_doubt (mounts.BadFrame at rule) certain = absurd (cc)
+unmounted_in_doubt mounts.DiskFault certain = absurd (cc)
+unmounted_in_doubt mounts.NoMemory certain = absurd (cc)
 
 -- behind one whose append failed
 stands_torn : (told : Option (List ℕ)) (images : List ℕ → Type 0) (torn : Bool) (history : List Entry) (failed : Entry) (gate : ℕ)

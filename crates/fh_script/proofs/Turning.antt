@@ -1,5 +1,5 @@
 -- How one line goes on from the lines before it, and how a run ends behind them.
-use Rattle.std.proofs.Common.{◌≡◌, inl, inr, ℕ, ◌+◌, ◌<◌, ◌≤◌, Bool, true, false, ◌&&◌, List, [], ◌∷◌, ◌++◌, length, take, Option, Some, None, IfSome, refl, sym, ◌∙◌, ap, subst, arith, append_assoc, append-nil, length-append}
+use Rattle.std.proofs.Common.{◌≡◌, ◌⊎◌, inl, inr, ℕ, ◌+◌, ◌<◌, ◌≤◌, Bool, true, false, ◌&&◌, List, [], ◌∷◌, ◌++◌, length, take, Option, Some, None, IfSome, refl, sym, ◌∙◌, ap, subst, arith, append_assoc, append-nil, length-append}
 use Rattle.std.specs.List.{list_all}
 use Rattle.std.proofs.lemmas.List.Folds.{list_all-append}
 use Rattle.std.proofs.lemmas.List.Sums.{fold-append}
@@ -13,7 +13,7 @@ use Rattle.fh_hub.specs.Replay.{Entry, IsLegal, replay}
 use Rattle.fh_script.specs.Lines.{is_line_feed, before_lines, lines, line_length, line_feeds, ReadsLine, StartsLong, HasLineReason}
 use Rattle.fh_script.specs.Machine.{answer_line, after_line, opening_in, printed, run}
 use Rattle.fh_script.specs.Session.{HasStopCause, StandsEither}
-use Rattle.fh_script.specs.Script.{Outside, Imaging, StandsForPart, HasLines, is_short_line, joined, Wrote, Answered, AnsweredBefore, IsLongNext, HasLinesReason}
+use Rattle.fh_script.specs.Script.{Outside, Imaging, StandsForPart, HasLines, is_short_line, joined, Wrote, Answered, AnsweredBefore, Unwritten, IsLongNext, HasLinesReason}
 use Rattle.fh_script.specs.declared.ends.End.{End}
 use Rattle.fh_script.specs.declared.ends.End.TheVariants.{Finished, Usage, BadHeader, BadFrame, ReadFault, DiskFault, WriteFault, LongLine, NoMemory}
 use Rattle.fh_script.proofs.LineReading.{consumes-append, line_feeds-append}
@@ -249,25 +249,31 @@ module _ (was now : Outside) (leaves : Imaging) (opening : List Entry) (legal : 
   line_stops before NoMemory it reason later stands images =
       inl (rest_of left, answered it reason.taken reason.consumed reason.few stands images)
 
+  wrote_before : (it : IsDone opening was.left left was.written now.written world moment history) (line : List ℕ) → ReadsLine left now.left line true
+      → Consumes left now.left line → length line ≤ 140001 → Wrote was now opening it.done (line ∷ rest_of now.left) []
+  wrote_before it line reads consumes few = record {
+    legal = legal;
+    stood = stood;
+    read = has_next was.left left now.left it.done line it.read reads;
+    short = it.short;
+    taken = line;
+    consumed = consumes-append was.left left now.left (joined it.done) line it.consumed consumes;
+    few = few;
+    texts = rw (append-nil (run opening it.done).written) it.texts;
+  }
+
   -- lines behind which one more was read
   before_line : (it : IsDone opening was.left left was.written now.written world moment history) (line : List ℕ) → ReadsLine left now.left line true
       → Consumes left now.left line → length line ≤ 140001 → IfSome now.told (StandsEither history (answer_line world moment line).entries)
       → leaves (StandsForPart opening (history ++ (answer_line world moment line).entries)) → AnsweredBefore was now leaves []
+  unfolding wrote_before
   before_line it line reads consumes few stands images = record {
     opening = opening;
     done = it.done;
     line = line;
     more = rest_of now.left;
-    wrote = record {
-      legal = legal;
-      stood = stood;
-      read = has_next was.left left now.left it.done line it.read reads;
-      short = it.short;
-      taken = line;
-      consumed = consumes-append was.left left now.left (joined it.done) line it.consumed consumes;
-      few = few;
-      texts = rw (append-nil (run opening it.done).written) it.texts;
-    };
+    wrote = wrote_before it line reads consumes few;
+    only = refl;
     stands =
         rw (← it.world_is, ← it.now_is)
         (subst (λ (h : List Entry). IfSome now.told (StandsEither h (answer_line world moment line).entries)) it.grows stands);
@@ -276,21 +282,53 @@ module _ (was now : Outside) (leaves : Imaging) (opening : List Entry) (legal : 
         (subst (λ (h : List Entry). leaves (StandsForPart opening (h ++ (answer_line world moment line).entries))) it.grows images);
   }
 
+  -- memory was refused for a line that was read, before anything was done, or behind it
+  lacks_memory : (it : IsDone opening was.left left was.written now.written world moment history) (line : List ℕ) → ReadsLine left now.left line true
+      → Consumes left now.left line → length line ≤ 140001 → leaves (StandsForPart opening (history ++ (answer_line world moment line).entries))
+      → (IfSome now.told (StandsForHistory history) × leaves (StandsForPart opening history))
+      ⊎ IfSome now.told (StandsForHistory (history ++ (answer_line world moment line).entries))
+      → HasLinesReason was now leaves [] NoMemory
+  unfolding wrote_before
+  lacks_memory it line reads consumes few images (inl before) = inl (line ∷ rest_of now.left, record {
+    opening = opening;
+    done = it.done;
+    wrote = wrote_before it line reads consumes few;
+    stands = subst (λ (h : List Entry). IfSome now.told (StandsForHistory h)) it.grows before.0;
+    images = subst (λ (h : List Entry). leaves (StandsForPart opening h)) it.grows before.1;
+  })
+  lacks_memory it line reads consumes few images (inr made) =
+      let next = next_history opening was.left left now.left was.written now.written now.written world (answer_line world moment line).world
+          moment (answer_line world moment line).now history (history ++ (answer_line world moment line).entries) line (printed (answer_line world moment line).text) it
+          (record { text_is = refl; world_is = refl; now_is = refl; grows = refl }) in
+      inr (record {
+        opening = opening;
+        done = it.done;
+        line = line;
+        more = rest_of now.left;
+        wrote = wrote_before it line reads consumes few;
+        only = refl;
+        stands = subst (λ (h : List Entry). IfSome now.told (StandsForHistory h)) next made;
+        images = subst (λ (h : List Entry). leaves (StandsForPart opening h)) next images;
+      })
+
   -- a run ends where a line has no answer
   pub answer_stops : (before : ℕ) (end : End) (line : List ℕ) → IsDone opening was.left left was.written now.written world moment history
       → HasStopCause before now.disk_faults end → was.disk_faults ≤ before → ReadsLine left now.left line true → Consumes left now.left line
       → length line ≤ 140001 → IfSome now.told (StandsEither history (answer_line world moment line).entries)
-      → leaves (StandsForPart opening (history ++ (answer_line world moment line).entries)) → HasLinesReason was now leaves [] end
-  answer_stops before Finished line it reason later reads consumes few stands images = absurd reason
-  answer_stops before Usage line it reason later reads consumes few stands images = absurd reason
-  answer_stops before BadHeader line it reason later reads consumes few stands images = absurd reason
-  answer_stops before (BadFrame at rule) line it reason later reads consumes few stands images = absurd reason
-  answer_stops before ReadFault line it reason later reads consumes few stands images = absurd reason
-  answer_stops before DiskFault line it reason later reads consumes few stands images =
+      → leaves (StandsForPart opening (history ++ (answer_line world moment line).entries))
+      → (end ≡ NoMemory → (IfSome now.told (StandsForHistory history) × leaves (StandsForPart opening history))
+      ⊎ IfSome now.told (StandsForHistory (history ++ (answer_line world moment line).entries)))
+      → HasLinesReason was now leaves [] end
+  answer_stops before Finished line it reason later reads consumes few stands images memory = absurd reason
+  answer_stops before Usage line it reason later reads consumes few stands images memory = absurd reason
+  answer_stops before BadHeader line it reason later reads consumes few stands images memory = absurd reason
+  answer_stops before (BadFrame at rule) line it reason later reads consumes few stands images memory = absurd reason
+  answer_stops before ReadFault line it reason later reads consumes few stands images memory = absurd reason
+  answer_stops before DiskFault line it reason later reads consumes few stands images memory =
       (rose_since _ _ _ later reason, before_line it line reads consumes few stands images)
-  answer_stops before WriteFault line it reason later reads consumes few stands images = absurd reason
-  answer_stops before LongLine line it reason later reads consumes few stands images = absurd reason
-  answer_stops before NoMemory line it reason later reads consumes few stands images = inr (before_line it line reads consumes few stands images)
+  answer_stops before WriteFault line it reason later reads consumes few stands images memory = absurd reason
+  answer_stops before LongLine line it reason later reads consumes few stands images memory = absurd reason
+  answer_stops before NoMemory line it reason later reads consumes few stands images memory = lacks_memory it line reads consumes few images (memory refl)
 
 -- a run ends where an answer is written in part
 pub write_stops : (was now : Outside) (leaves : Imaging) (opening : List Entry) → IsLegal opening → IfSome was.told (StandsForHistory opening)
@@ -320,6 +358,7 @@ write_stops was now leaves opening legal stood left mid_written world new moment
           rw (← it.world_is, ← it.now_is, ← does.text_is)
           (appends-append was.written mid_written now.written (run opening it.done).written (take written text) it.texts writes);
     };
+    only = refl;
     stands =
         subst (λ (h : List Entry). IfSome now.told (StandsForHistory h))
         (next_history opening was.left left now.left was.written mid_written now.written world new moment later history longer line text it does) stands;

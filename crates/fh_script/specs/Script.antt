@@ -1,5 +1,5 @@
 -- What a whole run of the script comes to.
-use Rattle.std.specs.Prelude.{◌≡◌, ◌⊎◌, ◌≤◌, ◌<◌, ⊤, ℕ, nat_le, Bool, true, false, List, [], ◌∷◌, ◌++◌, length, take, codes, Option, Some, None, IfSome, string_bytes}
+use Rattle.std.specs.Prelude.{◌≡◌, ◌⊎◌, ◌≤◌, ◌<◌, ⊤, ℕ, nat_le, Bool, true, false, ◌||◌, ◌==◌, List, [], ◌∷◌, ◌++◌, length, take, codes, Option, Some, None, IfSome, string_bytes}
 use Rattle.std.specs.List.{flat_map, list_all}
 use Rattle.std.specs.Str.{bytes_eq}
 use Rattle.std.specs.Io.KnownBytes.{Appends, Consumes, IsAtEnd}
@@ -102,19 +102,31 @@ pub record AnsweredAll (was now : Outside) (leaves : Imaging) (behind : List ℕ
   pub answered : Answered was now leaves more behind
   pub feeds : line_feeds (joined answered.done ++ answered.wrote.taken) ≡ length answered.done
 
--- The same of lines behind which one more was read: its entries may stand in the journal too.
+-- The same of lines behind which one more was read and nothing else: its entries may stand in the journal too.
 pub record AnsweredBefore (was now : Outside) (leaves : Imaging) (behind : List ℕ) : Type 0 where
   pub opening : List Entry
   pub done : List (List ℕ)
   pub line : List ℕ
   pub more : List (List ℕ)
   pub wrote : Wrote was now opening done (line ∷ more) behind
+  pub only : wrote.taken ≡ line
   pub stands :
       let s = run opening done in
       IfSome now.told (StandsEither (opening ++ s.entries) (answer_line s.world s.now line).entries)
   pub images :
       let s = run opening done in
       leaves (StandsForPart opening ((opening ++ s.entries) ++ (answer_line s.world s.now line).entries))
+
+-- The same of lines behind which one more was done, and its answer wasn't written.
+pub record Unwritten (was now : Outside) (leaves : Imaging) (behind : List ℕ) : Type 0 where
+  pub opening : List Entry
+  pub done : List (List ℕ)
+  pub line : List ℕ
+  pub more : List (List ℕ)
+  pub wrote : Wrote was now opening done (line ∷ more) behind
+  pub only : wrote.taken ≡ line
+  pub stands : IfSome now.told (StandsForHistory (opening ++ (run opening (done ++ line ∷ [])).entries))
+  pub images : leaves (StandsForPart opening (opening ++ (run opening (done ++ line ∷ [])).entries))
 
 -- The same of lines whose next answer was written in part alone, though its entries are in the journal.
 pub record CutOff (was now : Outside) (leaves : Imaging) : Type 0 where
@@ -126,6 +138,7 @@ pub record CutOff (was now : Outside) (leaves : Imaging) : Type 0 where
   pub part : written < length (printed (answer_line (run opening done).world (run opening done).now line).text)
   pub wrote : Wrote was now opening done (line ∷ more)
       (take written (printed (answer_line (run opening done).world (run opening done).now line).text))
+  pub only : wrote.taken ≡ line
   pub stands : IfSome now.told (StandsForHistory (opening ++ (run opening (done ++ line ∷ [])).entries))
   pub images : leaves (StandsForPart opening (opening ++ (run opening (done ++ line ∷ [])).entries))
 
@@ -152,7 +165,7 @@ HasLinesReason was now leaves behind ReadFault = Rose was.read_faults now.read_f
 HasLinesReason was now leaves behind DiskFault = Rose was.disk_faults now.disk_faults × AnsweredBefore was now leaves behind
 HasLinesReason was now leaves behind WriteFault = Rose was.write_faults now.write_faults × CutOff was now leaves
 HasLinesReason was now leaves behind LongLine = (more : List (List ℕ)) × (IsLongNext was.left more × Answered was now leaves more behind)
-HasLinesReason was now leaves behind NoMemory = ((more : List (List ℕ)) × Answered was now leaves more behind) ⊎ AnsweredBefore was now leaves behind
+HasLinesReason was now leaves behind NoMemory = ((more : List (List ℕ)) × Answered was now leaves more behind) ⊎ Unwritten was now leaves behind
 
 -- the same of any run
 abbrev pub HasReason : Outside → Outside → Imaging → List ℕ → End → Type 0
@@ -186,3 +199,11 @@ pub record EndsBy (was now : Outside) (leaves : Imaging) (code : ℕ) : Type 0 w
   pub written : ℕ
   pub whole : written < length (last_line end) → Rose was.write_faults now.write_faults
   pub reason : HasReason was now leaves (take written (last_line end)) end
+
+-- the statuses at which the journal is mounted and no call on its disk has left anything in doubt
+abbrev pub is_certain : ℕ → Bool
+is_certain code = (code == 0) || (code == 5) || (code == 7) || (code == 8)
+
+-- where the bytes are told, a crash leaves whatever history they stand for
+abbrev pub SurvivesCrash : Option (List ℕ) → (List ℕ → Type 0) → Type 0
+SurvivesCrash told images = IfSome told (λ file. (history : List Entry) (c : List ℕ) → StandsForHistory history file → images c → StandsForHistory history c)

@@ -1,5 +1,5 @@
 -- What a line does to a run over a journal.
-use Rattle.std.specs.Prelude.{◌⊎◌, ⊤, ℕ, List, [], ◌++◌, Option, IfSome, false}
+use Rattle.std.specs.Prelude.{◌≡◌, ◌⊎◌, ⊤, ℕ, List, [], ◌++◌, Option, IfSome, false}
 use Rattle.fh_base.specs.Faults.{Rose}
 use Rattle.fh_disk.specs.declared.disk.Disk.{Ghosts}
 use Rattle.fh_journal.specs.Keeping.{Keeps, StaysTold}
@@ -48,6 +48,14 @@ made_in session command = make_step (world_of session.hub.state) session.now com
 -- where the bytes are told, they stand for the history from before, or for that with these entries
 abbrev pub StandsIn : {D : Type 0} {J : Ghosts D} → Session D J → Session D J → List Entry → Type 0
 StandsIn {D} {J} old new entries = IfSome (J.told new.hub.journal.disk.now) (StandsEither old.hub.state.history entries)
+
+-- Memory was refused before the first call on the disk, or behind a step that was made. Either way the journal stands
+-- for the hub's history, also after a crash.
+pub record LacksMemory {D : Type 0} {J : Ghosts D} (old new : Session D J) (entries : List Entry) : Type 0 where
+  pub holds : HoldsIn new.hub
+  pub made :
+      (new.hub.journal.disk.now ≡ old.hub.journal.disk.now) × (new.hub.state.history ≡ old.hub.state.history)
+      ⊎ (new.hub.state.history ≡ old.hub.state.history ++ entries)
 
 -- told bytes stay told
 abbrev pub StaysToldIn : {D : Type 0} {J : Ghosts D} → Session D J → Session D J → Type 0

@@ -1,10 +1,11 @@
 // The top call of the script.
-ghost use Rattle.std.specs.Prelude.{◌≡◌, ◌≤◌, ◌==◌, [], false, not};
+ghost use Rattle.std.specs.Prelude.{◌≡◌, ◌≤◌, ◌==◌, [], true, false, not};
+ghost use Rattle.fh_journal.specs.Keeping.{StaysTold};
 ghost use Rattle.fh_script.specs.Ends.{code_of, last_line};
 ghost use Rattle.fh_hub.specs.State.{world_of};
 ghost use Rattle.fh_hub.specs.Replay.{replay, IsLegal};
-ghost use Rattle.fh_script.specs.Script.{EndsBy, HasLinesReason, HasReason, IsOfLines, imaging, imaging_lines, is_script, outside};
-ghost use Rattle.fh_script.specs.Session.{HoldsIn};
+ghost use Rattle.fh_script.specs.Script.{EndsBy, HasLinesReason, HasReason, IsOfLines, SurvivesCrash, imaging, imaging_lines, is_certain, is_script, outside};
+ghost use Rattle.fh_script.specs.Session.{HoldsIn, StaysToldIn};
 ghost use Rattle.fh_script.specs.Concluding.{Concludes};
 
 use crate::End;
@@ -36,6 +37,8 @@ pub fn script<S: Source, O: Sink, J: Disk, K: Disk>(
         (J.told journal.new) (J.disk_faults journal.new))
         (imaging J.told J.may_leave J.moment J.left_since journal.old journal.new)
         result.code }
+    ensures told { StaysTold (J.told journal.old) (J.told journal.new) }
+    ensures durable { is_certain result.code ≡ true → SurvivesCrash (J.told journal.new) (J.may_leave journal.new) }
     ensures unasked { result.code ≡ 2 → (source.new ≡ source.old) × (journal.new ≡ journal.old) }
     ensures unread { result.code ≡ 4 → source.new ≡ source.old }
     ensures checkpoint { _checkpoint.new ≡ _checkpoint.old }
@@ -89,6 +92,8 @@ fn run<S: Source, O: Sink, J: Disk>(
         (J.told journal.new) (J.disk_faults journal.new))
         (imaging J.told J.may_leave J.moment J.left_since journal.old journal.new)
         [] result }
+    ensures told { StaysTold (J.told journal.old) (J.told journal.new) }
+    ensures durable { is_certain (code_of result) ≡ true → SurvivesCrash (J.told journal.new) (J.may_leave journal.new) }
     ensures unread { code_of result ≡ 4 → source.new ≡ source.old }
     ensures asked { result ≡ End.Usage → ⊥ }
     ensures count { O.write_faults sink.old ≤ O.write_faults sink.new }
@@ -123,6 +128,9 @@ fn answer_lines<S: Source, O: Sink, J: Disk>(
         (imaging_lines J.told J.moment J.left_since
         session.old.hub.journal.disk.now session.new.hub.journal.disk.now)
         [] result }
+    ensures told { StaysToldIn session.old session.new }
+    ensures durable { is_certain (code_of result) ≡ true
+        → SurvivesCrash (J.told session.new.hub.journal.disk.now) (J.may_leave session.new.hub.journal.disk.now) }
     ensures mounted { IsOfLines result }
     ensures writes { O.write_faults sink.old ≤ O.write_faults sink.new }
     ensures same { session.new.hub.journal.disk.ghost_name ≡ session.old.hub.journal.disk.ghost_name }

@@ -20,11 +20,11 @@ pub struct Session<'d, J: Disk> {
 }
 
 impl<'d, J: Disk> Session<'d, J> {
-    ghost use Rattle.std.specs.Prelude.{◌≡◌, ◌≤◌, ◌++◌, false, IfOk, IfErr, OnOk, string_bytes};
+    ghost use Rattle.std.specs.Prelude.{◌≡◌, ◌≤◌, ◌++◌, false, IfOk, IfErr, OnOk, IsErrOf, string_bytes};
     ghost use Rattle.fh_hub.specs.Hub.{LeavesSince, faults_of};
     ghost use Rattle.fh_hub.specs.State.{world_of, IsIdle};
     ghost use Rattle.fh_script.specs.Machine.{printed};
-    ghost use Rattle.fh_script.specs.Session.{HasStopCause, HoldsIn, StandsEither, StandsIn, StaysToldIn, done_in, made_in};
+    ghost use Rattle.fh_script.specs.Session.{HasStopCause, HoldsIn, LacksMemory, StandsEither, StandsIn, StaysToldIn, done_in, made_in};
 
     /// A run over a disk whose journal was prepared, at the moment 0. Takes no memory.
     pub fn over(alloc: Global, disk: &'d mut J, state: State) -> Session<'d, J>
@@ -64,6 +64,7 @@ impl<'d, J: Disk> Session<'d, J> {
         ensures still_whole { OnOk result (self.new.hub.journal.torn ≡ false) }
         ensures holds { OnOk result (HoldsIn self.new.hub) }
         ensures cause { IfErr result (HasStopCause (faults_of self.old.hub) (faults_of self.new.hub)) }
+        ensures memory { IsErrOf result End.NoMemory → LacksMemory self.old self.new (done_in self.old line.now).entries }
         ensures stands { StandsIn self.old self.new (done_in self.old line.now).entries }
         ensures any_moment { LeavesSince self.old.hub self.new.hub
             (StandsEither self.old.hub.state.history (done_in self.old line.now).entries) }
@@ -89,6 +90,7 @@ impl<'d, J: Disk> Session<'d, J> {
         ensures still_whole { OnOk result (self.new.hub.journal.torn ≡ false) }
         ensures holds { OnOk result (HoldsIn self.new.hub) }
         ensures cause { IfErr result (HasStopCause (faults_of self.old.hub) (faults_of self.new.hub)) }
+        ensures memory { IsErrOf result End.NoMemory → LacksMemory self.old self.new (made_in self.old command.now).entries }
         ensures stands { StandsIn self.old self.new (made_in self.old command.now).entries }
         ensures any_moment { LeavesSince self.old.hub self.new.hub
             (StandsEither self.old.hub.state.history (made_in self.old command.now).entries) }

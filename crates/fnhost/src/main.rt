@@ -10,7 +10,7 @@ ghost use Rattle.std.specs.Prelude.{◌≡◌, ◌==◌, not, drop, slice_get, I
 ghost use Rattle.fh_script.specs.Script.{is_script};
 ghost use Rattle.fnhost.specs.Words.{path_of};
 
-use fh_base::{Status, StreamSink, StreamSource};
+use fh_base::{Sink, Source, Status, StreamSink, StreamSource};
 use fh_disk::FileDisk;
 use fh_script::{End, script};
 use std::alloc::{AllocError, Global};
@@ -73,15 +73,26 @@ fn run(rt: &HostRuntime, alloc: Global, words: &[String]) -> Result<Status, Allo
     };
     let mut sink = StreamSink::new(io::writer(rt));
     let mut files = files_of(rt, alloc, words)?;
-    let status = script(
-        alloc,
-        words,
-        &mut source,
-        &mut sink,
-        &mut files.journal,
-        &mut files.checkpoint,
-    );
-    Ok(status)
+    Ok(answer(alloc, words, &mut source, &mut sink, &mut files))
+}
+
+// Runs a command over the files that its words name.
+fn answer<S: Source, O: Sink>(
+    alloc: Global,
+    words: &[String],
+    source: &mut S,
+    sink: &mut O,
+    files: &mut CommandFiles,
+) -> Status
+    ensures usage { (result.code == 2) ≡ not (is_script words.now) }
+    ensures unasked { result.code ≡ 2 → files.new ≡ files.old }
+    ensures checkpoint { files.new.checkpoint ≡ files.old.checkpoint }
+{
+    let CommandFiles {
+        journal,
+        checkpoint,
+    } = files;
+    script(alloc, words, source, sink, journal, checkpoint)
 }
 
 fn files_of(rt: &HostRuntime, alloc: Global, words: &[String]) -> Result<CommandFiles, AllocError>

@@ -1,12 +1,12 @@
-use Rattle.std.proofs.Common.{◌∙◌, List, IfSome, refl, sym, subst, arith}
+use Rattle.std.proofs.Common.{◌∙◌, List, IfSome, Err, refl, sym, ap, subst, arith}
 use Rattle.fh_disk.specs.Moments.{LeavesOnly}
 use Rattle.fh_journal.proofs.Moments.{stays_told}
 use Rattle.fh_hub.specs.Replay.{Entry}
 use Rattle.fh_hub.specs.State.{world_of}
 use Rattle.fh_script.specs.Machine.{answer_line}
 use Rattle.fh_script.specs.Script.{StandsForPart}
-use Rattle.fh_script.proofs.Steps.{stands, stays_as_told}
-use Rattle.fh_script.proofs.Imaging.{first_images, more_images}
+use Rattle.fh_script.proofs.Steps.{stands, survives, stays_as_told}
+use Rattle.fh_script.proofs.Imaging.{first_images, more_images, without_memory}
 use Rattle.fh_script.proofs.Turning.{begins, finished, line_stops, answer_stops, write_stops, one_more, ends_behind}
 use Rattle.fh_script.proofs.running.answer_lines.Goals as goal
 
@@ -55,6 +55,9 @@ returns-in-Err-answer-clause-reason g c =
     c.answer.new.self.hub.journal.disk.now c.args.session.now.hub.state.history c.loop-line.session.hub.state.history _
     (answer_line (world_of c.loop-line.session.hub.state) c.loop-line.session.now c.read_line.new.line.items).entries
     c.loop-line.invariant.running.grows c.loop-line.invariant.told c.loop-line.invariant.images (rw c.deref.ensures.value at c.answer.ensures.any_moment))
+    (λ none. without_memory c.args.session.now.hub.journal.disk.now c.args.session.now.hub.state.history c.loop-line.session c.answer.new.self
+    (answer_line (world_of c.loop-line.session.hub.state) c.loop-line.session.now c.read_line.new.line.items).entries c.loop-line.invariant.images
+    ((rw c.deref.ensures.value at c.in-Err-answer.ensures.memory) (ap Err none)))
 
 pub returns-in-Err-write_all-clause-reason : goal.returns-in-Err-write_all-clause-reason
 returns-in-Err-write_all-clause-reason g c =
@@ -129,3 +132,23 @@ loop-line-preserved g c = record {
   disk = omega (arith, c.loop-line.invariant.disk, c.answer.ensures.count);
   same = c.answer.ensures.same ∙ c.loop-line.invariant.same;
 }
+
+pub returns-in-Ok-false-clause-durable : goal.returns-in-Ok-false-clause-durable
+returns-in-Ok-false-clause-durable g c = λ certain.
+    let mid = c.loop-line.session.hub in
+    survives (g.J.Disk.told mid.journal.disk.now) (g.J.Disk.may_leave mid.journal.disk.now) mid.state.history mid.journal.gate c.loop-line.invariant.holds
+
+pub returns-in-Err-clause-durable : goal.returns-in-Err-clause-durable
+returns-in-Err-clause-durable g c = λ certain.
+    let mid = c.loop-line.session.hub in
+    survives (g.J.Disk.told mid.journal.disk.now) (g.J.Disk.may_leave mid.journal.disk.now) mid.state.history mid.journal.gate c.loop-line.invariant.holds
+
+pub returns-in-Err-write_all-clause-durable : goal.returns-in-Err-write_all-clause-durable
+returns-in-Err-write_all-clause-durable g c = λ certain.
+    let new = c.answer.new.self.hub in
+    survives (g.J.Disk.told new.journal.disk.now) (g.J.Disk.may_leave new.journal.disk.now) new.state.history new.journal.gate c.in-Ok.ensures.holds
+
+pub returns-then-not-ends_with-clause-durable : goal.returns-then-not-ends_with-clause-durable
+returns-then-not-ends_with-clause-durable g c = λ certain.
+    let new = c.answer.new.self.hub in
+    survives (g.J.Disk.told new.journal.disk.now) (g.J.Disk.may_leave new.journal.disk.now) new.state.history new.journal.gate c.in-Ok.ensures.holds

@@ -6,6 +6,8 @@ use Rattle.fh_hub.specs.Mounting.{MountsHistory}
 use Rattle.fh_hub.specs.Replay.{Entry}
 use Rattle.fh_hub.proofs.Mounted.{stood_before}
 use Rattle.fh_script.proofs.Imaging.{from_mounting, while_mounting}
+use Rattle.fh_journal.proofs.Moments.{stays_told}
+use Rattle.fh_script.proofs.Steps.{unmounted_in_doubt}
 use Rattle.fh_script.proofs.Starting.{from_start, from_disk, not_mounted}
 use Rattle.fh_script.proofs.running.run.Goals as goal
 
@@ -41,3 +43,12 @@ returns-clause-reason g c =
     (stood opening stands) begins
     (subst (λ (d : g.row.J.Denot). StaysTold (J.told was) (J.told d)) (sym c.over-session.ensures.disk) c.prepare.ensures.told) lines)
     c.answer_lines-end.ensures.reason)
+
+pub returns-in-Err-clause-durable : goal.returns-in-Err-clause-durable
+returns-in-Err-clause-durable g c = λ certain. absurd (unmounted_in_doubt c.in-Err.fault (rw c.from.ensures at certain))
+
+pub returns-clause-told : goal.returns-clause-told
+returns-clause-told g c =
+    let J = g.J.Disk in
+    subst (λ (d : g.row.J.Denot). StaysTold (J.told c.args.journal.now) (J.told d)) (search rules)
+    (stays_told _ _ _ (subst (λ (d : g.row.J.Denot). StaysTold (J.told c.args.journal.now) (J.told d)) (sym c.over-session.ensures.disk) c.prepare.ensures.told) c.answer_lines-end.ensures.told)
