@@ -5,7 +5,7 @@
 //! `Source` gives its bytes in order and says how many may still come; a `Sink` keeps what it took, in
 //! order. Each has a count of faults that never falls, and a call fails only where the count rose in it.
 //! What an object holds is told or not, and the clauses on content hold where it is. The objects in memory
-//! tell all, and fail exactly at the calls of their plan, a sink also where memory is refused; the adapters
+//! tell all, and fail at the calls of their plan, a sink also where memory is refused; the adapters
 //! over real streams tell nothing.
 #![tactic(auto)]
 

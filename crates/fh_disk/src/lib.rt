@@ -6,7 +6,7 @@
 //!
 //! A recording `MemoryDisk` tells all. Its images are any bytes at the places that writes since the last
 //! sync have named and past the old end, at any length up to the greatest since, and the synced bytes
-//! elsewhere. It fails exactly at the calls of its plan, and where memory is refused. A plain one tells
+//! elsewhere. It fails at the calls of its plan, and where memory is refused. A plain one tells
 //! nothing, and its calls that don't make the file longer take no memory. A `FileDisk` is a file of the
 //! host; that it keeps to the model is trusted.
 #![tactic(auto)]
