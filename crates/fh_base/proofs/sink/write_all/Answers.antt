@@ -1,4 +1,4 @@
-use Rattle.std.proofs.Common.{List, ℕ, length, take, arith, ap, ◌∙◌, length-drop, subst}
+use Rattle.std.proofs.Common.{List, ℕ, length, take, refl, arith, ap, ◌∙◌, length-drop, subst}
 use Rattle.std.specs.Io.KnownBytes.{Appends}
 use Rattle.fh_base.proofs.Appending.{appends_more}
 use Rattle.fh_base.proofs.sink.write_all.Goals as goal
@@ -13,7 +13,7 @@ loop-place-preserved g c =
           appends_more _ _ _ c.args.bytes.now c.loop-place.place c.in_ok-taken.taken loop.written
           (subst (λ (rest : List ℕ). Appends (g.O.Sink.written c.loop-place.sink) (g.O.Sink.written c.write.new.self) (take c.in_ok-taken.taken rest))
           c.split_at.ensures.back taken.bytes);
-      count = omega (arith, loop.count, taken.cause.later);
+      count = taken.cause.passed refl ∙ loop.count;
       sure = λ told. taken.sure.stays (loop.sure told);
       beside = taken.beside ∙ loop.beside;
     }
