@@ -1,5 +1,5 @@
 // How the frames of a journal are read, each by reads of its own.
-ghost use Rattle.std.specs.Prelude.{◌≡◌, ◌≤◌, ◌<◌, ◌+◌, ◌^◌, true, length, take, IfOk, IfSome, IsErrOf, OnErr};
+ghost use Rattle.std.specs.Prelude.{◌≡◌, ◌≤◌, ◌<◌, ◌+◌, ◌^◌, true, length, take, IfOk, IfSome, IsErrOf, OnOk};
 ghost use Rattle.fh_base.specs.Faults.{Rose};
 ghost use Rattle.fh_journal.specs.Frames.{payloads_of, frames_from};
 ghost use Rattle.fh_journal.specs.Journal.{header};
@@ -26,6 +26,7 @@ pub(crate) fn read_frames<J: Disk>(
     ensures fault { IsErrOf result MountFault.DiskFault → Rose (J.disk_faults disk.old) (J.disk_faults disk.new) }
     ensures quiet { OnlyReads J.told J.may_leave J.moment J.left_since disk.old disk.new }
     ensures count { J.disk_faults disk.old ≤ J.disk_faults disk.new }
+    ensures passed { OnOk result (J.disk_faults disk.new ≡ J.disk_faults disk.old) }
 {
     let mut frames = Vec::new(alloc);
     let mut at = 6;
@@ -53,6 +54,7 @@ fn read_frame<J: Disk>(
     ensures fault { IsErrOf result MountFault.DiskFault → Rose (J.disk_faults disk.old) (J.disk_faults disk.new) }
     ensures quiet { OnlyReads J.told J.may_leave J.moment J.left_since disk.old disk.new }
     ensures count { J.disk_faults disk.old ≤ J.disk_faults disk.new }
+    ensures passed { OnOk result (J.disk_faults disk.new ≡ J.disk_faults disk.old) }
 {
     let Some(size) = read_size(disk, at, end)? else {
         return Ok(None);
@@ -76,6 +78,7 @@ fn read_size<J: Disk>(disk: &mut J, at: u64, end: u64) -> Result<Option<usize>, 
     ensures fault { IsErrOf result MountFault.DiskFault → Rose (J.disk_faults disk.old) (J.disk_faults disk.new) }
     ensures quiet { OnlyReads J.told J.may_leave J.moment J.left_since disk.old disk.new }
     ensures count { J.disk_faults disk.old ≤ J.disk_faults disk.new }
+    ensures passed { OnOk result (J.disk_faults disk.new ≡ J.disk_faults disk.old) }
 {
     let mut bytes = [0; 5];
     let there = (end - at).min(5) as usize;

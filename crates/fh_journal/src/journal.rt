@@ -85,6 +85,7 @@ impl<'d, J: Disk> Journal<'d, J> {
             disk.entry.now refused.1.now (λ c. J.may_leave disk.entry.now c ⊎ IsJournalOf c payloads))) }
         ensures count { MatchResult result (λ found. J.disk_faults disk.entry.now ≤ J.disk_faults found.0.disk.now)
             (λ refused. J.disk_faults disk.entry.now ≤ J.disk_faults refused.1.now) }
+        ensures passed { IfOk result (λ found. J.disk_faults found.0.disk.now ≡ J.disk_faults disk.entry.now) }
         ensures same { MatchResult result (λ found. found.0.disk.ghost_name ≡ disk.entry.ghost_name)
             (λ refused. refused.1.ghost_name ≡ disk.entry.ghost_name) }
     {
@@ -162,6 +163,7 @@ impl<'d, J: Disk> Journal<'d, J> {
         ensures reserved { vec_capacity self.old.buffer ≤ vec_capacity self.new.buffer }
         ensures told { StaysTold (J.told self.old.disk.now) (J.told self.new.disk.now) }
         ensures count { J.disk_faults self.old.disk.now ≤ J.disk_faults self.new.disk.now }
+        ensures passed { OnOk result (J.disk_faults self.new.disk.now ≡ J.disk_faults self.old.disk.now) }
         ensures same { self.new.disk.ghost_name ≡ self.old.disk.ghost_name }
     {
         self.mend()?;
@@ -197,6 +199,7 @@ impl<'d, J: Disk> Journal<'d, J> {
         ensures reserved { vec_capacity self.new.buffer ≡ vec_capacity self.old.buffer }
         ensures told { StaysTold (J.told self.old.disk.now) (J.told self.new.disk.now) }
         ensures count { J.disk_faults self.old.disk.now ≤ J.disk_faults self.new.disk.now }
+        ensures passed { OnOk result (J.disk_faults self.new.disk.now ≡ J.disk_faults self.old.disk.now) }
         ensures same { self.new.disk.ghost_name ≡ self.old.disk.ghost_name }
     {
         if !self.torn {

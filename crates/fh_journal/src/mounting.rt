@@ -50,6 +50,7 @@ pub fn prepare<J: Disk>(alloc: Global, disk: &mut J) -> Result<Prepared, MountFa
         → LeavesOnly J.moment J.left_since disk.old disk.new (λ c. J.may_leave disk.old c ⊎ IsJournalOf c payloads)) }
     ensures told { StaysTold (J.told disk.old) (J.told disk.new) }
     ensures count { J.disk_faults disk.old ≤ J.disk_faults disk.new }
+    ensures passed { OnOk result (J.disk_faults disk.new ≡ J.disk_faults disk.old) }
 {
     let end = begin(disk)?;
     if end <= FRESH.len() as u64 {

@@ -1,4 +1,4 @@
-use Rattle.std.proofs.Common.{arith}
+use Rattle.std.proofs.Common.{refl, ◌∙◌, arith}
 use Rattle.fh_journal.proofs.Moments.{quiet_start, quiet_call}
 use Rattle.fh_journal.proofs.Filling.{starts, goes_on, fits, ends}
 use Rattle.fh_journal.proofs.reading.read_fully.Goals as goal
@@ -18,7 +18,7 @@ loop-filled-preserved g c = record {
   quiet =
       quiet_call g.J.Disk.told g.J.Disk.may_leave g.J.Disk.moment g.J.Disk.left_since _ _ _ c.loop-filled.invariant.quiet c.read_at.ensures.told
       c.read_at.ensures.images c.read_at.ensures.time;
-  count = omega (arith, c.loop-filled.invariant.count, c.read_at.ensures.cause.later);
+  count = c.in_ok-count.ensures.cause.passed refl ∙ c.loop-filled.invariant.count;
   fit = λ i. (c.type_inv.buf i).fits;
   bound = fits c.loop-filled.filled c.in_ok-count.count c.loop-filled.buf c.read_at.new.buf _ c.loop-filled.invariant.bound c.in_ok-count.ensures.bound.0;
   filling =
