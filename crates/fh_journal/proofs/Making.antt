@@ -1,9 +1,11 @@
 -- A file of at most 7 bytes that is made anew.
-use Rattle.std.proofs.Common.{◌≡◌, ◌⊎◌, inl, inr, ℕ, ◌≤◌, List, [], ◌∷◌, ◌++◌, length, Option, Some, None, IfSome, refl, ap, subst, arith, length-append, w32}
+use Rattle.std.proofs.Common.{◌≡◌, ◌⊎◌, inl, inr, ⊎_elim, ℕ, ◌≤◌, List, [], ◌∷◌, ◌++◌, length, Option, Some, None, IfSome, refl, ap, subst, arith, length-append, w32}
 use Rattle.std.specs.List.{flat_map}
 use Rattle.std.specs.Int.{to_be_bytes}
+use Rattle.fh_disk.specs.Disk.{NoNewImage}
 use Rattle.fh_disk.specs.Moments.{LeavesOnly}
 use Rattle.fh_journal.specs.Journal.{header, frame, opened, IsJournalOf}
+use Rattle.fh_journal.specs.Mounting.{IsBeingMade}
 use Rattle.fh_journal.proofs.Moments.{joins}
 
 short_opened : (file : List ℕ) (payloads : List (List ℕ)) (rest : List ℕ) → length file ≤ 7 → file ≡ opened payloads ++ rest → 1 ≤ length rest → payloads ≡ []
@@ -28,14 +30,14 @@ short_journal file payloads short (inr stands) = short_opened file payloads (sta
 
 module _ {D : Type 0} (moment : D → ℕ) (left_since : D → ℕ → List ℕ → Type 0) where
   -- what a crash leaves while it is made
-  pub made_since : (old mid new : D) (told now : Option (List ℕ)) (images : List ℕ → Type 0) (end : ℕ) (payloads : List (List ℕ)) → now ≡ told
-      → IfSome told (λ file. length file ≡ end) → end ≤ 7 → LeavesOnly moment left_since old mid images
-      → IfSome now (λ _. LeavesOnly moment left_since mid new (λ c. length c ≤ 7))
-      → IfSome told (λ file. IsJournalOf file payloads → LeavesOnly moment left_since old new (λ c. images c ⊎ IsJournalOf c payloads))
-  made_since old mid new None now images end payloads same long short first second = tt
-  made_since old mid new (Some file) now images end payloads same long short first second = λ journal.
+  pub made_since : (old mid new : D) (told now : Option (List ℕ)) (was images : List ℕ → Type 0) (end : ℕ) (payloads : List (List ℕ)) → now ≡ told
+      → IfSome told (λ file. length file ≡ end) → end ≤ 7 → LeavesOnly moment left_since old mid was → NoNewImage was images
+      → IfSome now (λ file. LeavesOnly moment left_since mid new (λ c. images c ⊎ IsBeingMade file c))
+      → IfSome told (λ file. IsJournalOf file payloads → LeavesOnly moment left_since old new (λ c. was c ⊎ IsJournalOf c payloads))
+  made_since old mid new None now was images end payloads same long short first no_new second = tt
+  made_since old mid new (Some file) now was images end payloads same long short first no_new second = λ journal.
       let none : payloads ≡ [] = short_journal file payloads (omega (arith, long, short)) journal in
-      let made : LeavesOnly moment left_since mid new (λ c. length c ≤ 7) =
-      subst (λ (o : Option (List ℕ)). IfSome o (λ _. LeavesOnly moment left_since mid new (λ c. length c ≤ 7))) same second in
-      joins moment left_since old mid new images (λ c. length c ≤ 7) (λ c. images c ⊎ IsJournalOf c payloads) first made (λ c left. inl left)
-      (λ c small. inr (inl (small, none)))
+      let made : LeavesOnly moment left_since mid new (λ c. images c ⊎ IsBeingMade file c) =
+      subst (λ (o : Option (List ℕ)). IfSome o (λ f. LeavesOnly moment left_since mid new (λ c. images c ⊎ IsBeingMade f c))) same second in
+      joins moment left_since old mid new was (λ c. images c ⊎ IsBeingMade file c) (λ c. was c ⊎ IsJournalOf c payloads) first made (λ c left. inl left)
+      (λ c one. ⊎_elim (λ left. inl (no_new c left)) (λ made. inr (inl (made.2, none))) one)

@@ -58,6 +58,6 @@ MountsTold None now result = now ≡ None
 MountsTold (Some was) None result = ⊥
 MountsTold (Some was) (Some now) result = Mounts was now result
 
--- a file of at most 7 bytes may be left with any such bytes by a crash
+-- a file of at most 7 bytes may be left with any such bytes by a crash, except one that is fresh already
 abbrev pub IsBeingMade : List ℕ → List ℕ → Type 0
-IsBeingMade was file = (length was ≤ 7) × (length file ≤ 7)
+IsBeingMade was file = (length was ≤ 7) × (was ≢ fresh_file) × (length file ≤ 7)

@@ -3,7 +3,7 @@ use Rattle.std.specs.Prelude.{◌≡◌, ◌≢◌, ⊤, ℕ, ◌-◌, ◌<◌, 
 use Rattle.std.specs.Int.{w32, to_be_bytes}
 use Rattle.fh_journal.specs.Journal.{frame, header, IsShort, Stands}
 use Rattle.fh_journal.specs.Frames.{payloads_of}
-use Rattle.fh_journal.specs.Mounting.{Breaks, BreaksAt}
+use Rattle.fh_journal.specs.Mounting.{Breaks, BreaksAt, fresh_file}
 use Rattle.fh_journal.specs.declared.faults.FrameRule.{FrameRule}
 use Rattle.fh_journal.specs.declared.faults.MountFault.{MountFault}
 use Rattle.fh_journal.specs.declared.faults.MountFault.TheVariants.{BadHeader, BadFrame, DiskFault, NoMemory}
@@ -74,3 +74,8 @@ ReadsFrames file (Err fault) = RefusesFile file fault
 abbrev pub BeginsWithHeader : List ℕ → Bool → Type 0
 BeginsWithHeader file true = take 6 file ≡ header
 BeginsWithHeader file false = take 6 file ≢ header
+
+-- whether a file is a journal of no frames as it is made
+abbrev pub IsFresh : List ℕ → Bool → Type 0
+IsFresh file true = file ≡ fresh_file
+IsFresh file false = file ≢ fresh_file

@@ -1,5 +1,5 @@
 // How a file becomes a journal.
-ghost use Rattle.std.specs.Prelude.{◌≡◌, ◌⊎◌, ◌≤◌, ◌<◌, [], true, false, ℕ, List, IfSome, IfOk, OnOk, length, IsErrOf};
+ghost use Rattle.std.specs.Prelude.{◌≡◌, ◌⊎◌, ◌≤◌, ◌<◌, [], false, ℕ, List, IfSome, IfOk, OnOk, length, IsErrOf};
 ghost use Rattle.std.specs.Option.{option_map};
 ghost use Rattle.fh_base.specs.Faults.{HasCause, Rose};
 ghost use Rattle.fh_disk.specs.Disk.{OnlyTold};
@@ -8,7 +8,7 @@ ghost use Rattle.fh_journal.specs.Frames.{payloads_of, frames_from};
 ghost use Rattle.fh_journal.specs.Journal.{IsJournalOf};
 ghost use Rattle.fh_journal.specs.Keeping.{Keeps, OnlyReads, StaysTold};
 ghost use Rattle.fh_journal.specs.Mounting.{IsBeingMade, MountsTold, fresh_file};
-ghost use Rattle.fh_journal.specs.Reading.{BeginsWithHeader};
+ghost use Rattle.fh_journal.specs.Reading.{BeginsWithHeader, IsFresh};
 
 use crate::MountFault;
 use crate::frame_reading::read_frames;
@@ -86,7 +86,8 @@ fn make_anew<J: Disk>(disk: &mut J, end: u64) -> Result<(), Failed>
     ensures durable { OnOk result (OnlyTold (J.told disk.new) (J.may_leave disk.new)) }
     ensures told { StaysTold (J.told disk.old) (J.told disk.new) }
     ensures short { IfSome (J.told disk.new) (λ file. length file ≤ 7) }
-    ensures any_moment { IfSome (J.told disk.old) (λ _. LeavesOnly J.moment J.left_since disk.old disk.new (λ c. length c ≤ 7)) }
+    ensures any_moment { IfSome (J.told disk.old) (λ file. LeavesOnly J.moment J.left_since disk.old disk.new
+        (λ c. J.may_leave disk.old c ⊎ IsBeingMade file c)) }
     ensures cause { HasCause (J.disk_faults disk.old) (J.disk_faults disk.new) result }
 {
     if end == FRESH.len() as u64 && is_fresh(disk)? {
@@ -97,7 +98,7 @@ fn make_anew<J: Disk>(disk: &mut J, end: u64) -> Result<(), Failed>
 
 // Whether a file of 7 bytes is a journal of no frames.
 fn is_fresh<J: Disk>(disk: &mut J) -> Result<bool, Failed>
-    ensures fresh { IfOk result (λ fresh. IfSome (J.told disk.old) (λ file. length file ≡ 7 → fresh ≡ true → file ≡ fresh_file)) }
+    ensures fresh { IfOk result (λ fresh. IfSome (J.told disk.old) (λ file. length file ≡ 7 → IsFresh file fresh)) }
     ensures quiet { OnlyReads J.told J.may_leave J.moment J.left_since disk.old disk.new }
     ensures cause { HasCause (J.disk_faults disk.old) (J.disk_faults disk.new) result }
 {
