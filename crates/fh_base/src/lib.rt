@@ -3,10 +3,10 @@
 //! Promised to the layers above: `QueueName::read`, `PlainName::read`, `is_blob_name`, `Moment::new` and
 //! `poison_of` take exactly what their grammars say, and a `Rule` has the number and name of its table. A
 //! `Source` gives its bytes in order and says how many may still come; a `Sink` keeps what it took, in
-//! order. Each has a count of faults that never falls, and a call fails only where the count rose in it.
-//! What an object holds is told or not, and the clauses on content hold where it is. The objects in memory
-//! tell all, and fail at the calls of their plan, a sink also where memory is refused; the adapters
-//! over real streams tell nothing.
+//! order. Each has a count of faults that never falls; a call fails only where the count rose in it, and
+//! passes only where it didn't. What an object holds is told or not, and the clauses on content hold where
+//! it is. The objects in memory tell all, and fail at the calls of their plan, a sink also where memory is
+//! refused; the adapters over real streams tell nothing.
 #![tactic(auto)]
 
 mod blob_name;

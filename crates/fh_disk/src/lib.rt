@@ -1,8 +1,9 @@
 //! A file on a disk: what its calls give and write, what a crash may leave of it, and when it fails.
 //!
 //! Promised to the layers above: a `Disk` reads what was written; what a crash at any moment may leave
-//! is said by the images, and after a sync that succeeded they are what reads give; a call fails only
-//! where the disk's count of faults rose in it. Nothing is said of these where a disk doesn't tell.
+//! is said by the images, and after a sync that succeeded they are what reads give. Nothing is said of
+//! these where a disk doesn't tell. A call fails only where the disk's count of faults rose in it, and
+//! passes only where it didn't.
 //!
 //! A recording `MemoryDisk` tells all. Its images are any bytes at the places that writes since the last
 //! sync have named and past the old end, at any length up to the greatest since, and the synced bytes

@@ -7,7 +7,8 @@
 //! succeeds, and the next append mends first. A file is refused exactly where it is no journal, with
 //! the first frame that breaks a rule, and it is left as it is.
 //!
-//! A call fails only where the disk's count of faults rose in it, and `append` and `mend` take no memory.
+//! A call answers a fault of the disk only where the disk's count of faults rose in it, and Ok only where
+//! it didn't. `append` and `mend` take no memory.
 #![tactic(auto)]
 
 mod faults;
