@@ -1,6 +1,5 @@
 // Reading entries from left to right.
-ghost use Rattle.std.specs.Prelude.{◌≡◌, ℕ, true, false, Ok, IfOk, MatchOption};
-ghost use Rattle.std.specs.Str.{is_utf8};
+ghost use Rattle.std.specs.Prelude.{ℕ, Ok, IfOk};
 ghost use Rattle.std.specs.Int.{w32, w64};
 ghost use Rattle.fh_event.specs.Answers.{Gives};
 ghost use Rattle.fh_event.specs.Reading.{number_at, text_at, flag_at, maybe_at, command_at, kind_byte_at, entry_read};
@@ -9,7 +8,7 @@ ghost use Rattle.fh_event.specs.Entries.{IsEntry};
 use crate::command::Command;
 use crate::faults::EventFault;
 use crate::tables::{clear, delete, locate, make_queue, peek, put, take, update};
-use crate::text::Text;
+use crate::text::{Text, utf8_text};
 use fh_base::Moment;
 use std::alloc::Global;
 
@@ -66,19 +65,9 @@ fn text_of(alloc: Global, field: u8, bytes: &[u8]) -> Result<(Text, &[u8]), Even
         return Err(EventFault::ShortField { field });
     }
     let (text, rest) = rest.split_at(length);
-    match utf8_of(text) {
+    match utf8_text(text) {
         None => Err(EventFault::BadField { field }),
         Some(text) => Ok((Text::from_str(alloc, text)?, rest)),
-    }
-}
-
-#[tactic(auto, using(crate::proofs::Utf8::is_text, crate::proofs::Utf8::is_no_text))]
-fn utf8_of(bytes: &[u8]) -> Option<&str>
-    ensures { MatchOption result (is_utf8 bytes.now ≡ false) (λ s. (is_utf8 bytes.now ≡ true) × (s.now ≡ bytes.now)) }
-{
-    match str::from_utf8(bytes) {
-        Ok(text) => Some(text),
-        Err(_) => None,
     }
 }
 

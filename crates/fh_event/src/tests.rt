@@ -258,3 +258,18 @@ fn a_text_is_copied(rt: HostRuntime) -> Result<(), Fail> {
     assert_eq!(rt; text.copy(rt.alloc())?.as_str(), "orders");
     Ok(())
 }
+
+#[test]
+fn bytes_are_a_text_where_they_are_utf8(rt: HostRuntime) {
+    let cases: [(&[u8], Option<&str>); 5] = [
+        (b"", Some("")),
+        (b"caf\xC3\xA9", Some("caf\u{e9}")),
+        // An overlong spelling, half of a pair of surrogates, and a character that is cut off.
+        (b"\xC0\x80", None),
+        (b"\xED\xA0\x80", None),
+        (b"caf\xC3", None),
+    ];
+    for (bytes, text) in cases {
+        assert_eq!(rt; utf8_text(bytes), text);
+    }
+}

@@ -8,4 +8,3 @@ pub mod LastLines
 pub mod Decoding
 pub mod Numbers
 pub mod Printing
-pub mod Utf8Texts

@@ -7,9 +7,9 @@ ghost use Rattle.fh_script.specs.Reading.{Gives, texts};
 use crate::faults::{LineFault, Stop};
 use crate::forms::{lifetime, number, number_or, text};
 use crate::lines::line_text;
-use crate::words::{utf8_text, words_of};
+use crate::words::words_of;
 use fh_base::NoMemory;
-use fh_event::Command;
+use fh_event::{Command, utf8_text};
 use std::alloc::Global;
 
 /// What a line stands for.
