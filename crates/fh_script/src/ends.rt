@@ -59,7 +59,7 @@ impl End {
 }
 
 /// The last line where a frame of the journal is wrong: the place of its gate, and the rule in one word.
-pub fn damaged_line(alloc: Global, at: u64, rule: HubRule) -> Result<String, AllocError>
+pub(crate) fn damaged_line(alloc: Global, at: u64, rule: HubRule) -> Result<String, AllocError>
     ensures { IfOk result (λ line. string_bytes line ≡ damaged_line at rule) }
 {
     let name = rule_name(rule);

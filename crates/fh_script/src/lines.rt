@@ -13,7 +13,7 @@ const MOST: usize = 140_000;
 
 /// Reads the next line into the buffer, with its line feed, and says whether there was one. A last line
 /// without a line feed counts where it isn't empty.
-pub fn read_line<S: Source>(source: &mut S, line: &mut Vec<u8>) -> Result<bool, End>
+pub(crate) fn read_line<S: Source>(source: &mut S, line: &mut Vec<u8>) -> Result<bool, End>
     ensures found { IfOk result (ReadsLine (S.left source.old) (S.left source.new) line.new.items) }
     ensures short { OnOk result (line_length line.new.items ≤ 140000) }
     ensures stored { OnOk result (length line.new.items ≤ 140001) }
@@ -51,7 +51,7 @@ pub fn read_line<S: Source>(source: &mut S, line: &mut Vec<u8>) -> Result<bool, 
 }
 
 /// The line without its line feed, and without one carriage return before that.
-pub fn line_text(line: &[u8]) -> &[u8]
+pub(crate) fn line_text(line: &[u8]) -> &[u8]
     ensures { result.now ≡ line_text line.entry.now }
 {
     if line.ends_with(b"\r\n") {

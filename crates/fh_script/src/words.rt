@@ -5,7 +5,7 @@ ghost use Rattle.fh_script.specs.Words.{words};
 use std::alloc::{AllocError, Global};
 
 /// What stands between runs of spaces.
-pub fn words_of<'a>(alloc: Global, text: &'a str) -> Result<Vec<&'a str>, AllocError>
+pub(crate) fn words_of<'a>(alloc: Global, text: &'a str) -> Result<Vec<&'a str>, AllocError>
     ensures { IfOk result (λ found. map (λ word. word.now) found.items ≡ words text.entry.now) }
 {
     text.split(' ')
