@@ -64,6 +64,7 @@ impl<'d, J: Disk> Hub<'d, J> {
         ensures stood { IfOk result (λ hub. IfSome (J.told disk.entry.now) (StandsForHistory hub.state.history)) }
         ensures mounted { IfOk result (λ hub. MountsHistory (J.told disk.entry.now) (J.told hub.journal.disk.now) None) }
         ensures refused { IfErr result (λ refused. MountsHistory (J.told disk.entry.now) (J.told refused.1.now) (Some refused.0)) }
+        ensures passed { IfOk result (λ hub. J.disk_faults hub.journal.disk.now ≡ J.disk_faults disk.entry.now) }
         ensures fault { IfErr result (λ refused. refused.0 ≡ HubFault.DiskFault
             → Rose (J.disk_faults disk.entry.now) (J.disk_faults refused.1.now)) }
         ensures any_moment { MatchResult result
@@ -125,6 +126,7 @@ impl<'d, J: Disk> Hub<'d, J> {
         ensures fault { OnErr result (IsUnchanged self.old.state self.new.state) }
         ensures untouched { is_recorded (step (world_of self.old.state) command.now now) ≡ false
             → (self.new.journal.disk.now ≡ self.old.journal.disk.now) × (self.new.journal.torn ≡ self.old.journal.torn) }
+        ensures passed { OnOk result (faults_of self.new ≡ faults_of self.old) }
         ensures memory { IsErrOf result StepFault.NoMemory
             → (self.new.journal.disk.now ≡ self.old.journal.disk.now) × (self.new.journal.torn ≡ self.old.journal.torn) }
         ensures keeps { (failed : Entry) → KeepsIn self.old failed
@@ -153,6 +155,7 @@ impl<'d, J: Disk> Hub<'d, J> {
         ensures reply { IfOk result (λ reply. step (world_of self.old.state) e.command e.moment ≡ Recorded (world_of self.new.state) reply) }
         ensures history { OnOk result (self.new.state.history ≡ self.old.state.history ++ e ∷ []) }
         ensures fault { OnErr result (IsUnchanged self.old.state self.new.state) }
+        ensures passed { OnOk result (faults_of self.new ≡ faults_of self.old) }
         ensures memory { IsErrOf result StepFault.NoMemory
             → (self.new.journal.disk.now ≡ self.old.journal.disk.now) × (self.new.journal.torn ≡ self.old.journal.torn) }
         ensures cause { IfErr result (HasStepCause (faults_of self.old) (faults_of self.new)) }

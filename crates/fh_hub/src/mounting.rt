@@ -35,6 +35,7 @@ pub fn prepare<J: Disk>(alloc: Global, disk: &mut J) -> Result<State, HubFault>
     ensures stood { IfOk result (λ state. IfSome (J.told disk.old) (StandsForHistory state.history)) }
     ensures mounted { OnOk result (MountsHistory (J.told disk.old) (J.told disk.new) None) }
     ensures refused { IfErr result (λ fault. MountsHistory (J.told disk.old) (J.told disk.new) (Some fault)) }
+    ensures passed { OnOk result (J.disk_faults disk.new ≡ J.disk_faults disk.old) }
     ensures fault { IsErrOf result HubFault.DiskFault → Rose (J.disk_faults disk.old) (J.disk_faults disk.new) }
     ensures any_moment { IfSome (J.told disk.old) (λ file. LeavesOnly J.moment J.left_since disk.old disk.new
         (λ c. J.may_leave disk.old c ⊎ IsBeingMade file c)) }
