@@ -1,13 +1,11 @@
 -- How a run goes on from the mounting of its journal.
-use Rattle.std.proofs.Common.{◌≡◌, inl, inr, ℕ, ◌≤◌, nat_le, Bool, true, false, List, [], ◌∷◌, ◌++◌, length, Option, Some, None, IfSome, refl, sym, subst, arith, append_assoc}
-use Rattle.std.proofs.lemmas.Bool.Decides.{nat_tests}
+use Rattle.std.proofs.Common.{◌≡◌, inl, inr, ℕ, ◌≤◌, List, [], ◌∷◌, ◌++◌, Option, Some, None, IfSome, refl, sym, subst, arith, append_assoc}
 use Rattle.std.specs.Io.KnownBytes.{Appends, Consumes}
 use Rattle.fh_base.specs.Faults.{Rose}
-use Rattle.fh_journal.specs.Mounting.{fresh_file, IsBeingMade}
-use Rattle.fh_journal.proofs.Making.{short_journal}
+use Rattle.fh_journal.specs.Mounting.{IsBeingMade}
 use Rattle.fh_hub.specs.Hub.{StandsForHistory}
 use Rattle.fh_hub.specs.Mounting.{MountsHistory}
-use Rattle.fh_hub.specs.Replay.{Entry, payloads_of}
+use Rattle.fh_hub.specs.Replay.{Entry}
 use Rattle.fh_script.specs.Machine.{run}
 use Rattle.fh_script.proofs.Imaging.{opening_part}
 use Rattle.fh_script.specs.Script.{Outside, Imaging, HasLines, joined, Wrote, Answered, AnsweredAll, AnsweredBefore, Unwritten, CutOff, Unmounted, IsLongNext, HasLinesReason, HasReason}

@@ -13,7 +13,7 @@ use Rattle.fh_hub.specs.Replay.{Entry, IsLegal, replay}
 use Rattle.fh_script.specs.Lines.{is_line_feed, before_lines, lines, line_length, line_feeds, ReadsLine, StartsLong, HasLineReason}
 use Rattle.fh_script.specs.Machine.{answer_line, after_line, opening_in, printed, run}
 use Rattle.fh_script.specs.Session.{HasStopCause, StandsEither}
-use Rattle.fh_script.specs.Script.{Outside, Imaging, StandsForPart, HasLines, is_short_line, joined, Wrote, Answered, AnsweredBefore, Unwritten, IsLongNext, HasLinesReason}
+use Rattle.fh_script.specs.Script.{Outside, Imaging, StandsForPart, HasLines, is_short_line, joined, Wrote, Answered, AnsweredBefore, IsLongNext, HasLinesReason}
 use Rattle.fh_script.specs.declared.ends.End.{End}
 use Rattle.fh_script.specs.declared.ends.End.TheVariants.{Finished, Usage, BadHeader, BadFrame, ReadFault, DiskFault, WriteFault, LongLine, NoMemory}
 use Rattle.fh_script.proofs.LineReading.{consumes-append, line_feeds-append}
@@ -289,17 +289,20 @@ module _ (was now : Outside) (leaves : Imaging) (opening : List Entry) (legal : 
       ⊎ IfSome now.told (StandsForHistory (history ++ (answer_line world moment line).entries))
       → HasLinesReason was now leaves [] NoMemory
   unfolding wrote_before
-  lacks_memory it line reads consumes few images (inl before) = inl (line ∷ rest_of now.left, record {
-    opening = opening;
-    done = it.done;
-    wrote = wrote_before it line reads consumes few;
-    stands = subst (λ (h : List Entry). IfSome now.told (StandsForHistory h)) it.grows before.0;
-    images = subst (λ (h : List Entry). leaves (StandsForPart opening h)) it.grows before.1;
-  })
+  lacks_memory it line reads consumes few images (inl before) = inl (
+    line ∷ rest_of now.left,
+    record {
+      opening = opening;
+      done = it.done;
+      wrote = wrote_before it line reads consumes few;
+      stands = subst (λ (h : List Entry). IfSome now.told (StandsForHistory h)) it.grows before.0;
+      images = subst (λ (h : List Entry). leaves (StandsForPart opening h)) it.grows before.1;
+    },
+  )
   lacks_memory it line reads consumes few images (inr made) =
       let next = next_history opening was.left left now.left was.written now.written now.written world (answer_line world moment line).world
-          moment (answer_line world moment line).now history (history ++ (answer_line world moment line).entries) line (printed (answer_line world moment line).text) it
-          (record { text_is = refl; world_is = refl; now_is = refl; grows = refl }) in
+      moment (answer_line world moment line).now history (history ++ (answer_line world moment line).entries) line (printed (answer_line world moment line).text) it
+      (record { text_is = refl; world_is = refl; now_is = refl; grows = refl }) in
       inr (record {
         opening = opening;
         done = it.done;

@@ -23,6 +23,7 @@ pub(crate) fn read_line<S: Source>(source: &mut S, line: &mut Vec<u8>) -> Result
     ensures reason { IfErr result (HasLineReason (S.left source.old) (S.left source.new)
         (S.read_faults source.old) (S.read_faults source.new)) }
     ensures less { IfOk result (λ found. found ≡ true → S.most source.new < S.most source.old) }
+    ensures passed { OnOk result (S.read_faults source.new ≡ S.read_faults source.old) }
     ensures count { S.read_faults source.old ≤ S.read_faults source.new }
 {
     line.clear();

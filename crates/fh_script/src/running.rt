@@ -37,6 +37,8 @@ pub fn script<S: Source, O: Sink, J: Disk, K: Disk>(
         (J.told journal.new) (J.disk_faults journal.new))
         (imaging J.told J.may_leave J.moment J.left_since journal.old journal.new)
         result.code }
+    ensures passed { result.code ≡ 0 → (S.read_faults source.new ≡ S.read_faults source.old)
+        × (O.write_faults sink.new ≡ O.write_faults sink.old) × (J.disk_faults journal.new ≡ J.disk_faults journal.old) }
     ensures told { StaysTold (J.told journal.old) (J.told journal.new) }
     ensures durable { is_certain result.code ≡ true → SurvivesCrash (J.told journal.new) (J.may_leave journal.new) }
     ensures unasked { result.code ≡ 2 → (source.new ≡ source.old) × (journal.new ≡ journal.old) }
@@ -69,6 +71,7 @@ fn is_script(words: &[String]) -> bool
 fn conclude<O: Sink>(sink: &mut O, end: End, line: &str) -> Status
     requires { line.now ≡ last_line end }
     ensures status { result.code ≡ code_of end }
+    ensures passed { last_line end ≡ [] → O.write_faults sink.new ≡ O.write_faults sink.old }
     ensures written { Concludes (O.written sink.old) (O.written sink.new) (last_line end)
         (O.write_faults sink.old) (O.write_faults sink.new) }
     ensures count { O.write_faults sink.old ≤ O.write_faults sink.new }
@@ -92,6 +95,8 @@ fn run<S: Source, O: Sink, J: Disk>(
         (J.told journal.new) (J.disk_faults journal.new))
         (imaging J.told J.may_leave J.moment J.left_since journal.old journal.new)
         [] result }
+    ensures passed { result ≡ End.Finished → (S.read_faults source.new ≡ S.read_faults source.old)
+        × (O.write_faults sink.new ≡ O.write_faults sink.old) × (J.disk_faults journal.new ≡ J.disk_faults journal.old) }
     ensures told { StaysTold (J.told journal.old) (J.told journal.new) }
     ensures durable { is_certain (code_of result) ≡ true → SurvivesCrash (J.told journal.new) (J.may_leave journal.new) }
     ensures unread { code_of result ≡ 4 → source.new ≡ source.old }
@@ -128,6 +133,9 @@ fn answer_lines<S: Source, O: Sink, J: Disk>(
         (imaging_lines J.told J.moment J.left_since
         session.old.hub.journal.disk.now session.new.hub.journal.disk.now)
         [] result }
+    ensures passed { result ≡ End.Finished → (S.read_faults source.new ≡ S.read_faults source.old)
+        × (O.write_faults sink.new ≡ O.write_faults sink.old)
+        × (J.disk_faults session.new.hub.journal.disk.now ≡ J.disk_faults session.old.hub.journal.disk.now) }
     ensures told { StaysToldIn session.old session.new }
     ensures durable { is_certain (code_of result) ≡ true
         → SurvivesCrash (J.told session.new.hub.journal.disk.now) (J.may_leave session.new.hub.journal.disk.now) }

@@ -64,6 +64,7 @@ impl<'d, J: Disk> Session<'d, J> {
         ensures still_whole { OnOk result (self.new.hub.journal.torn ≡ false) }
         ensures holds { OnOk result (HoldsIn self.new.hub) }
         ensures cause { IfErr result (HasStopCause (faults_of self.old.hub) (faults_of self.new.hub)) }
+        ensures passed { OnOk result (faults_of self.new.hub ≡ faults_of self.old.hub) }
         ensures memory { IsErrOf result End.NoMemory → LacksMemory self.old self.new (done_in self.old line.now).entries }
         ensures stands { StandsIn self.old self.new (done_in self.old line.now).entries }
         ensures any_moment { LeavesSince self.old.hub self.new.hub
@@ -90,6 +91,7 @@ impl<'d, J: Disk> Session<'d, J> {
         ensures still_whole { OnOk result (self.new.hub.journal.torn ≡ false) }
         ensures holds { OnOk result (HoldsIn self.new.hub) }
         ensures cause { IfErr result (HasStopCause (faults_of self.old.hub) (faults_of self.new.hub)) }
+        ensures passed { OnOk result (faults_of self.new.hub ≡ faults_of self.old.hub) }
         ensures memory { IsErrOf result End.NoMemory → LacksMemory self.old self.new (made_in self.old command.now).entries }
         ensures stands { StandsIn self.old self.new (made_in self.old command.now).entries }
         ensures any_moment { LeavesSince self.old.hub self.new.hub

@@ -64,7 +64,7 @@ returns-in-Err-push-clause-reason g c =
 
 pub returns-in-Err-clause-reason : goal.returns-in-Err-clause-reason
 returns-in-Err-clause-reason g c = (
-  rose_since _ _ _ c.loop-byte.invariant.count (c.in-Err.ensures.cause.failed refl),
+  rose_since _ _ _ (omega (arith, c.loop-byte.invariant.count)) (c.in-Err.ensures.cause.failed refl),
   record {
     taken = c.loop-byte.line.items;
     consumed = consumes_kept _ _ _ c.loop-byte.line.items c.loop-byte.invariant.read c.in-Err.ensures.failed;

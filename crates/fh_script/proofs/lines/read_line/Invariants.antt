@@ -10,7 +10,7 @@ invariant-loop-byte g l = record {
   plain : list_all (λ b. not (is_line_feed b)) l.line.items ≡ true;
   short : length l.line.items ≤ 140000;
   most : length l.line.items + g.S.Source.most l.source ≤ g.S.Source.most l.initial.source;
-  count : g.S.Source.read_faults l.initial.source ≤ g.S.Source.read_faults l.source;
+  count : g.S.Source.read_faults l.source ≡ g.S.Source.read_faults l.initial.source;
 }
 
 abbrev pub decreases-loop-byte : goal.decreases-loop-byte

@@ -19,9 +19,9 @@ loop-line-init g c = record {
   images =
       first_images g.J.Disk.told g.J.Disk.may_leave g.J.Disk.moment g.J.Disk.left_since c.args.session.now.hub.journal.disk.now
       (g.met.J.Disk.only_now c.args.session.now.hub.journal.disk.now) c.args.session.now.hub.state.history c.args.session.now.hub.journal.gate c.requires.holds;
-  reads = omega arith;
-  writes = omega arith;
-  disk = omega arith;
+  reads = refl;
+  writes = refl;
+  disk = refl;
   same = refl;
 }
 
@@ -40,7 +40,7 @@ returns-in-Err-clause-reason g c =
     let old = c.args.session.now.hub in
     let mid = c.loop-line.session.hub in
     line_stops _ _ _ old.state.history c.requires.legal (stands (g.J.Disk.told old.journal.disk.now) (g.J.Disk.may_leave old.journal.disk.now) old.state.history old.journal.gate c.requires.holds)
-    _ _ _ _ _ c.in-Err.end c.loop-line.invariant.running c.in-Err.ensures.reason c.loop-line.invariant.reads
+    _ _ _ _ _ c.in-Err.end c.loop-line.invariant.running c.in-Err.ensures.reason (omega (arith, c.loop-line.invariant.reads))
     (stands (g.J.Disk.told mid.journal.disk.now) (g.J.Disk.may_leave mid.journal.disk.now) mid.state.history mid.journal.gate c.loop-line.invariant.holds)
     c.loop-line.invariant.images
 
@@ -48,7 +48,7 @@ pub returns-in-Err-answer-clause-reason : goal.returns-in-Err-answer-clause-reas
 returns-in-Err-answer-clause-reason g c =
     let old = c.args.session.now.hub in
     answer_stops _ _ _ old.state.history c.requires.legal (stands (g.J.Disk.told old.journal.disk.now) (g.J.Disk.may_leave old.journal.disk.now) old.state.history old.journal.gate c.requires.holds)
-    _ _ _ _ _ c.in-Err-answer.end c.read_line.new.line.items c.loop-line.invariant.running c.in-Err-answer.ensures.cause c.loop-line.invariant.disk
+    _ _ _ _ _ c.in-Err-answer.end c.read_line.new.line.items c.loop-line.invariant.running c.in-Err-answer.ensures.cause (omega (arith, c.loop-line.invariant.disk))
     (rw c.in-Ok-true.field-0-test at c.in-Ok-true.ensures.found) c.in-Ok-true.ensures.consumed c.in-Ok-true.ensures.stored
     (rw c.deref.ensures.value at c.answer.ensures.stands)
     (more_images g.J.Disk.told g.J.Disk.may_leave g.J.Disk.moment g.J.Disk.left_since c.args.session.now.hub.journal.disk.now c.loop-line.session.hub.journal.disk.now
@@ -73,7 +73,7 @@ returns-in-Err-write_all-clause-reason g c =
       now_is = rw c.deref.ensures.value at c.in-Ok.ensures.moment;
       grows = rw c.deref.ensures.value at c.in-Ok.ensures.history;
     })
-    writes.1 writes.2 c.loop-line.invariant.writes (c.in-Err-write_all.ensures.cause.failed refl)
+    writes.1 writes.2 (omega (arith, c.loop-line.invariant.writes)) (c.in-Err-write_all.ensures.cause.failed refl)
     (stands (g.J.Disk.told new.journal.disk.now) (g.J.Disk.may_leave new.journal.disk.now) new.state.history new.journal.gate c.in-Ok.ensures.holds)
     (subst (λ (h : List Entry). IfSome (g.J.Disk.told c.args.session.now.hub.journal.disk.now) (λ _. LeavesOnly g.J.Disk.moment g.J.Disk.left_since
     c.args.session.now.hub.journal.disk.now c.answer.new.self.hub.journal.disk.now (StandsForPart c.args.session.now.hub.state.history h)))
@@ -127,9 +127,9 @@ loop-line-preserved g c = record {
       c.answer.new.self.hub.journal.disk.now c.args.session.now.hub.state.history c.loop-line.session.hub.state.history _
       (answer_line (world_of c.loop-line.session.hub.state) c.loop-line.session.now c.read_line.new.line.items).entries
       c.loop-line.invariant.running.grows c.loop-line.invariant.told c.loop-line.invariant.images (rw c.deref.ensures.value at c.answer.ensures.any_moment)));
-  reads = omega (arith, c.loop-line.invariant.reads, c.read_line.ensures.count);
-  writes = omega (arith, c.loop-line.invariant.writes, c.write_all.ensures.cause.later);
-  disk = omega (arith, c.loop-line.invariant.disk, c.answer.ensures.count);
+  reads = c.in-Ok-true.ensures.passed ∙ c.loop-line.invariant.reads;
+  writes = c.in-Ok-write_all.ensures.cause.passed refl ∙ c.loop-line.invariant.writes;
+  disk = c.in-Ok.ensures.passed ∙ c.loop-line.invariant.disk;
   same = c.answer.ensures.same ∙ c.loop-line.invariant.same;
 }
 

@@ -1,4 +1,4 @@
-use Rattle.std.proofs.Common.{◌≡◌, ◌≤◌, false, IfSome}
+use Rattle.std.proofs.Common.{◌≡◌, false, IfSome}
 use Rattle.fh_hub.specs.State.{world_of}
 use Rattle.fh_disk.specs.Moments.{LeavesOnly}
 use Rattle.fh_journal.specs.Keeping.{StaysTold}
@@ -21,9 +21,9 @@ invariant-loop-line g l = record {
       IfSome (g.J.Disk.told l.initial.session.hub.journal.disk.now) (λ _. LeavesOnly g.J.Disk.moment g.J.Disk.left_since
       l.initial.session.hub.journal.disk.now l.session.hub.journal.disk.now
       (StandsForPart l.initial.session.hub.state.history l.session.hub.state.history));
-  reads : g.S.Source.read_faults l.initial.source ≤ g.S.Source.read_faults l.source;
-  writes : g.O.Sink.write_faults l.initial.sink ≤ g.O.Sink.write_faults l.sink;
-  disk : g.J.Disk.disk_faults l.initial.session.hub.journal.disk.now ≤ g.J.Disk.disk_faults l.session.hub.journal.disk.now;
+  reads : g.S.Source.read_faults l.source ≡ g.S.Source.read_faults l.initial.source;
+  writes : g.O.Sink.write_faults l.sink ≡ g.O.Sink.write_faults l.initial.sink;
+  disk : g.J.Disk.disk_faults l.session.hub.journal.disk.now ≡ g.J.Disk.disk_faults l.initial.session.hub.journal.disk.now;
   same : l.session.hub.journal.disk.ghost_name ≡ l.initial.session.hub.journal.disk.ghost_name;
 }
 

@@ -1,4 +1,4 @@
-use Rattle.std.proofs.Common.{ℕ, List, length, Option, Result, Ok, Err, refl, arith, ◌∙◌, subst, take_all}
+use Rattle.std.proofs.Common.{◌≡◌, ℕ, List, [], length, ap, Option, Result, Ok, Err, refl, arith, ◌∙◌, subst, take_all}
 use Rattle.fh_base.specs.declared.faults.Failed.{Failed}
 use Rattle.fh_base.specs.Faults.{HasCause}
 use Rattle.fh_base.specs.Streams.{WritesAll}
@@ -17,6 +17,16 @@ concludes was now line before after (Err failed) writes cause = record {
   part = writes.2;
   whole = λ less. cause.failed refl;
 }
+
+nothing_failed : (was now : Option (List ℕ)) (line : List ℕ) (before after : ℕ) (result : Result (Unit {0}) Failed) → WritesAll was now result line
+    → HasCause before after result → line ≡ [] → after ≡ before
+nothing_failed was now line before after (Ok done) writes cause none = cause.passed refl
+nothing_failed was now line before after (Err failed) writes cause none = absurd (omega (arith, writes.1, ap length none))
+
+pub returns-clause-passed : goal.returns-clause-passed
+returns-clause-passed g c = λ none.
+    nothing_failed _ _ _ _ _ c.write_all-written.result c.write_all-written.ensures.written c.write_all-written.ensures.cause
+    (c.as_bytes.ensures.value ∙ c.requires ∙ none)
 
 pub returns-clause-written : goal.returns-clause-written
 returns-clause-written g c =
