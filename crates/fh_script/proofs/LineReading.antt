@@ -4,6 +4,7 @@ use Rattle.std.proofs.lemmas.Bool.Decides.{nat_tests, Decides-eqb}
 use Rattle.std.proofs.lemmas.Slice.Eq.{ends_is}
 use Rattle.std.specs.List.{list_all}
 use Rattle.std.specs.Io.KnownBytes.{Consumes, IsAtEnd}
+use Rattle.fh_base.specs.Faults.{Rose}
 use Rattle.fh_script.specs.Lines.{is_line_feed, before_lines, lines, line_length, line_feeds, is_ended, ReadsLine, StartsLong}
 
 -- the bytes have no line feed
@@ -126,3 +127,9 @@ not_ended line plain ended =
 
 pub line_feeds-ended : (line : List ℕ) → is_plain line ≡ true → line_feeds (line ++ 10 ∷ []) ≡ 1
 line_feeds-ended line plain = line_feeds-append line (10 ∷ []) ∙ ap (λ (n : ℕ). n + 1) (line_feeds-plain line plain)
+
+-- Counts of faults.
+
+-- a count that rose behind a later one rose since the first
+pub rose_since : (first before now : ℕ) → first ≤ before → Rose before now → Rose first now
+rose_since first before now later rose = omega (arith, later, rose)

@@ -1,5 +1,5 @@
 -- How a run goes on from the mounting of its journal.
-use Rattle.std.proofs.Common.{◌≡◌, inl, inr, ℕ, ◌≤◌, List, [], ◌∷◌, ◌++◌, Option, Some, None, IfSome, refl, sym, subst, arith, append_assoc}
+use Rattle.std.proofs.Common.{◌≡◌, inl, inr, ℕ, ◌≤◌, List, [], ◌∷◌, ◌++◌, Option, Some, None, IfSome, refl, sym, subst, append_assoc}
 use Rattle.std.specs.Io.KnownBytes.{Appends, Consumes}
 use Rattle.fh_base.specs.Faults.{Rose}
 use Rattle.fh_journal.specs.Mounting.{IsBeingMade}
@@ -12,6 +12,7 @@ use Rattle.fh_script.specs.Script.{Outside, Imaging, HasLines, joined, Wrote, An
 use Rattle.fh_hub.specs.declared.faults.HubRule.{HubRule}
 use Rattle.fh_hub.specs.declared.faults.HubFault.{HubFault}
 use Rattle.fh_script.specs.Ends.{end_of_mount}
+use Rattle.fh_script.proofs.LineReading.{rose_since}
 use Rattle.fh_script.proofs.Turning.{appends-nothing}
 use Rattle.fh_hub.specs.declared.faults.HubFault.TheVariants as mounts
 use Rattle.fh_script.specs.declared.ends.End.{End}
@@ -88,9 +89,6 @@ module _ (was mid now : Outside) (left : mid.left ≡ was.left) (written : mid.w
     stands = it.stands;
     images = leave it.opening _ it.wrote.stood (λ c. opening_part it.opening _ (run it.opening (it.done ++ it.line ∷ [])).entries c refl) it.images;
   }
-
-rose_since : (first before now : ℕ) → first ≤ before → Rose before now → Rose first now
-rose_since first before now later rose = omega (arith, later, rose)
 
 -- the same reason of a run that began with mounting
 pub from_start : (was mid now : Outside) (leaves_mid leaves : Imaging) (end : End) → mid.left ≡ was.left → mid.written ≡ was.written → mid.read_faults ≡ was.read_faults

@@ -2,7 +2,7 @@
 use Rattle.std.proofs.Common.{◌≡◌, ◌⊎◌, inl, inr, ℕ, Bool, true, false, List, [], ◌∷◌, ◌++◌, Option, Some, None, IfSome, refl, sym, subst}
 use Rattle.fh_disk.specs.Moments.{LeavesOnly}
 use Rattle.fh_event.specs.declared.command.Command.{Command}
-use Rattle.fh_journal.specs.Keeping.{Keeps, StaysTold}
+use Rattle.fh_journal.specs.Keeping.{Keeps}
 use Rattle.fh_journal.specs.Journal.{IsJournalOf, MayReadAs}
 use Rattle.fh_journal.proofs.Bytes.{reads}
 use Rattle.fh_journal.proofs.Readings.{journal_once}
@@ -39,10 +39,6 @@ held told images false history failed gate whole kept = of_told told kept.keeps
     of_told : (bytes : Option (List ℕ)) → Keeps bytes images false (payloads_of history) (bytes_of failed) gate → Holds bytes images history gate
     of_told None keeps = tt
     of_told (Some file) keeps = record { as_read = keeps.as_read; after_crash = keeps.after_crash }
-
-pub stays_as_told : (told : Option (List ℕ)) → StaysTold told told
-stays_as_told None = refl
-stays_as_told (Some file) = tt
 
 -- behind a step that went well
 pub held_again : (told : Option (List ℕ)) (images : List ℕ → Type 0) (torn : Bool) (history : List Entry) (failed e : Entry) (gate : ℕ) → torn ≡ false

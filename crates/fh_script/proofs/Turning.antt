@@ -16,7 +16,7 @@ use Rattle.fh_script.specs.Session.{HasStopCause, StandsEither}
 use Rattle.fh_script.specs.Script.{Outside, Imaging, StandsForPart, HasLines, is_short_line, joined, Wrote, Answered, AnsweredBefore, IsLongNext, HasLinesReason}
 use Rattle.fh_script.specs.declared.ends.End.{End}
 use Rattle.fh_script.specs.declared.ends.End.TheVariants.{Finished, Usage, BadHeader, BadFrame, ReadFault, DiskFault, WriteFault, LongLine, NoMemory}
-use Rattle.fh_script.proofs.LineReading.{consumes-append, line_feeds-append}
+use Rattle.fh_script.proofs.LineReading.{rose_since, consumes-append, line_feeds-append}
 use Rattle.fh_script.proofs.Turns.{Reads, IsDone}
 
 pub appends-nothing : (was : Option (List ℕ)) → Appends was was []
@@ -165,9 +165,6 @@ long_next (Some a) (Some b) done read long = from (lines b) (rw (line_length-fir
     from : (l : List (List ℕ)) → 140000 < line_length (first_of l) → IsLongNext (Some a) l
     from [] none = absurd (omega (arith, none))
     from (line ∷ more) longer = longer
-
-rose_since : (first before now : ℕ) → first ≤ before → Rose before now → Rose first now
-rose_since first before now later rose = omega (arith, later, rose)
 
 has_next : (was left now : Option (List ℕ)) (done : List (List ℕ)) (line : List ℕ) → Reads was left done → ReadsLine left now line true
     → HasLines was (done ++ line ∷ rest_of now)

@@ -1,8 +1,7 @@
 use Rattle.std.proofs.Common.{◌≡◌, ◌<◌, ◌++◌, List, ℕ, ◌==◌, Bool, false, [], ◌∷◌, Option, rules, arith, ap, ◌∙◌, subst, ◌≤◌, length, length-append, Some, None, sym, refl}
 use Rattle.std.proofs.lemmas.Bool.Decides.{nat_tests}
 use Rattle.std.specs.Io.KnownBytes.{Consumes, Keeps}
-use Rattle.fh_script.proofs.LineReading.{reads_ended, reads_last, starts_longer, line_length-ended, line_length-le, line_feeds-plain, line_feeds-ended, not_ended, consumes-append}
-use Rattle.fh_base.specs.Faults.{Rose}
+use Rattle.fh_script.proofs.LineReading.{rose_since, reads_ended, reads_last, starts_longer, line_length-ended, line_length-le, line_feeds-plain, line_feeds-ended, not_ended, consumes-append}
 use Rattle.fh_script.specs.Lines.{Took}
 use Rattle.fh_script.proofs.lines.read_line.Goals as goal
 
@@ -20,9 +19,6 @@ consumes_kept None mid now line one keeps = tt
 consumes_kept (Some a) None now line one keeps = absurd one
 consumes_kept (Some a) (Some b) None line one keeps = absurd keeps
 consumes_kept (Some a) (Some b) (Some d) line one keeps = one ∙ ap (λ (l : List ℕ). line ++ l) (sym keeps)
-
-rose_since : (first before now : ℕ) → first ≤ before → Rose before now → Rose first now
-rose_since first before now later rose = omega (arith, later, rose)
 
 ended_by : (line new : List ℕ) (byte : ℕ) → new ≡ line ++ byte ∷ [] → byte ≡ 10 → new ≡ line ++ 10 ∷ []
 ended_by line new byte is feed = is ∙ ap (λ (b : ℕ). line ++ b ∷ []) feed

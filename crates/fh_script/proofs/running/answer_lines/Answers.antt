@@ -5,7 +5,8 @@ use Rattle.fh_hub.specs.Replay.{Entry}
 use Rattle.fh_hub.specs.State.{world_of}
 use Rattle.fh_script.specs.Machine.{answer_line}
 use Rattle.fh_script.specs.Script.{StandsForPart}
-use Rattle.fh_script.proofs.Steps.{stands, survives, stays_as_told}
+use Rattle.fh_hub.proofs.Crashes.{stays_as_told}
+use Rattle.fh_script.proofs.Steps.{stands, survives}
 use Rattle.fh_script.proofs.Imaging.{first_images, more_images, without_memory}
 use Rattle.fh_script.proofs.Turning.{begins, finished, line_stops, answer_stops, write_stops, one_more, ends_behind}
 use Rattle.fh_script.proofs.running.answer_lines.Goals as goal
