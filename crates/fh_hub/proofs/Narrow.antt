@@ -1,29 +1,28 @@
 -- A command that the queues accept has short texts.
-use Rattle.std.proofs.Common.{◌≡◌, ℕ, ◌≤◌, Bool, true, false, List, [], ◌∷◌, length, Option, Some, None, Ok, Err, refl, subst, arith}
-use Rattle.std.specs.Prelude.{nat_lt, if◌then◌else◌, IfSome, Result}
+use Rattle.std.proofs.Common.{◌≡◌, ℕ, ◌≤◌, Bool, true, false, List, [], ◌∷◌, length, Option, Some, None, Ok, refl, sym, subst, arith}
+use Rattle.std.specs.Prelude.{nat_lt, if◌then◌else◌, IfSome}
 use Rattle.std.proofs.lemmas.Bool.Decides.{nat_tests}
 use Rattle.fh_base.specs.Names.{is_queue_name}
 use Rattle.fh_base.specs.QueueNames.{is_short}
-use Rattle.fh_base.specs.declared.rule.Rule.{Rule}
 use Rattle.fh_base.specs.declared.rule.Rule.TheVariants.{TooLarge, BadName}
 use Rattle.fh_event.specs.declared.command.Command.{Command}
 use Rattle.fh_event.specs.declared.command.Command.TheVariants.{MakeQueue, Put, Take, Update, Delete, Clear, Peek, Locate}
-use Rattle.fh_event.specs.declared.reply.Item.{Item}
 use Rattle.fh_queues.specs.Asks.{Ask}
 use Rattle.fh_queues.specs.Asks as asks
 use Rattle.fh_queues.specs.Part.{QueuePart}
 use Rattle.fh_queues.specs.Rules.{text_rule, new_text_rule, ttl_rule, delay_rule, queue_rule, store_rule, range_rule, message_rule, put_rule, update_rule}
 use Rattle.fh_queues.specs.Outcome.{Outcome, outcome, peeked}
 use Rattle.fh_queues.proofs.Ways.{unbroken, unbroken-head}
-use Rattle.fh_hub.specs.World.{Asked, Refuses, Asks, where_named, peeking, asked}
+use Rattle.fh_hub.specs.World.{Dispatch, Refuses, Asks, where_named, dispatch}
 use Rattle.fh_hub.proofs.Sizes.{HasNarrowTexts}
+use Rattle.fh_hub.proofs.Steps.{peeks_nothing}
 
--- what was asked had a good name
-record IsNamed (queue : List ℕ) (asks given : Asked) : Type 0 where
+-- what the queues are asked for had a good name
+record IsNamed (queue : List ℕ) (asks given : Dispatch) : Type 0 where
   pub name : length queue ≤ 65536
   pub same : asks ≡ given
 
-named : (queue : List ℕ) (given : Asked) (ask : Ask) → where_named queue given ≡ Asks ask → IsNamed queue (Asks ask) given
+named : (queue : List ℕ) (given : Dispatch) (ask : Ask) → where_named queue given ≡ Asks ask → IsNamed queue (Asks ask) given
 named queue given ask is = by_test (is_queue_name queue) refl is
   where
     by_test : (good : Bool) → is_queue_name queue ≡ good → (if good then given else Refuses BadName) ≡ Asks ask → IsNamed queue (Asks ask) given
@@ -53,12 +52,8 @@ update_text part m queue number receipt hold text made is =
     let none = unbroken (update_rule part m queue number receipt hold text) _ made is in
     narrow_new_text text (unbroken-head (new_text_rule text) (range_rule hold 0 604800 ∷ message_rule part m queue number receipt ∷ []) none).0
 
-peeks_nothing : (found : Result (List Item) Rule) (ask : Ask) → Asks ask ≡ peeking found → ⊥
-peeks_nothing (Ok items) ask is = cc
-peeks_nothing (Err rule) ask is = cc
-
-pub narrow_texts : (part : QueuePart) (command : Command) (m : ℕ) (ask : Ask) (made : Outcome) → asked part command m ≡ Asks ask → outcome part ask m ≡ Ok made → HasNarrowTexts command
-unfolding asked
+pub narrow_texts : (part : QueuePart) (command : Command) (m : ℕ) (ask : Ask) (made : Outcome) → dispatch part command m ≡ Asks ask → outcome part ask m ≡ Ok made → HasNarrowTexts command
+unfolding dispatch
 narrow_texts part (MakeQueue queue) m ask made asking done = ((named queue _ ask asking).name, tt)
 narrow_texts part (Put queue delay ttl text) m ask made asking done =
     let is = named queue _ ask asking in
@@ -71,5 +66,5 @@ narrow_texts part (Update queue number receipt hold text) m ask made asking done
     (is.name, (tt, (tt, (tt, (update_text part m queue number receipt hold text made (subst (λ (a : Ask). outcome part a m ≡ Ok made) same done), tt)))))
 narrow_texts part (Delete queue number receipt) m ask made asking done = ((named queue _ ask asking).name, (tt, (tt, tt)))
 narrow_texts part (Clear queue) m ask made asking done = ((named queue _ ask asking).name, tt)
-narrow_texts part (Peek queue count) m ask made asking done = absurd (peeks_nothing (peeked part queue count m) ask (named queue _ ask asking).same)
+narrow_texts part (Peek queue count) m ask made asking done = absurd (peeks_nothing (peeked part queue count m) ask (sym (named queue _ ask asking).same))
 narrow_texts part (Locate number) m ask made asking done = absurd (cc)

@@ -8,7 +8,7 @@ use Rattle.fh_event.specs.declared.command.Command.{Command}
 use Rattle.fh_event.specs.Entries.{entry}
 use Rattle.fh_queues.specs.Asks.{Ask}
 use Rattle.fh_queues.specs.Outcome.{Outcome, outcome, is_quiet}
-use Rattle.fh_hub.specs.World.{World, Recorded, Asks, asked, joined, world_with, reply_of, most_bytes, step, step_at, effective_moment}
+use Rattle.fh_hub.specs.World.{World, Asks, dispatch, unless_refused, recorded, most_bytes, step, step_at, effective_moment}
 
 -- a command that acts at its own moment
 pub step_is_at : (w : World) (command : Command) (m : ℕ) → m ≤ greatest_moment → w.last ≤ m → step w command m ≡ step_at w command m
@@ -18,16 +18,19 @@ step_is_at w command m early own =
     let same : effective_moment w m ≡ m = omega (arith, own) in
     rw (first, same) refl
 
-pub joined_records : (w : World) (m size : ℕ) (found : Result Outcome Rule) (made : Outcome) → found ≡ Ok made → is_quiet made.1 ≡ false → w.gate + 6 + size ≤ most_bytes
-    → joined w m size found ≡ Recorded (world_with w made.0 m size) (reply_of made.1)
-joined_records w m size found made is loud room =
+-- what the queues accept loudly is recorded where there is room
+pub accepted_is_recorded : (w : World) (m size : ℕ) (found : Result Outcome Rule) (made : Outcome) → found ≡ Ok made → is_quiet made.1 ≡ false → w.gate + 6 + size ≤ most_bytes
+    → unless_refused w m size found ≡ recorded w m size made
+accepted_is_recorded w m size found made is loud room =
     let fits : nat_lt most_bytes (w.gate + 6 + size) ≡ false = grind (arith, nat_tests, room) in
     rw (is, loud, fits) refl
 
-pub step_at_joins : (w : World) (command : Command) (m : ℕ) (ask : Ask) → asked w.queues command m ≡ Asks ask → step_at w command m ≡ joined w m (length (entry m command)) (outcome w.queues ask m)
+-- the step of a command that asks the queues
+pub step_at_asks : (w : World) (command : Command) (m : ℕ) (ask : Ask) → dispatch w.queues command m ≡ Asks ask → step_at w command m ≡ unless_refused w m (length (entry m command)) (outcome w.queues ask m)
 unfolding step_at
-step_at_joins w command m ask is = rw is refl
+step_at_asks w command m ask is = rw is refl
 
+-- no fault of room: it has room
 pub has_room : (gate size : ℕ) → (if nat_lt most_bytes (gate + 6 + size) then Some gate else None) ≡ None → gate + 6 + size ≤ most_bytes
 has_room gate size is = by_test (nat_lt most_bytes (gate + 6 + size)) refl is
   where

@@ -15,7 +15,7 @@ use Rattle.fh_queues.specs.Asks.{Ask}
 use Rattle.fh_queues.specs.Asks as asks
 use Rattle.fh_queues.specs.Part.{QueuePart}
 use Rattle.fh_queues.specs.Outcome.{Outcome, outcome, peeked, is_quiet}
-use Rattle.fh_hub.specs.World.{World, empty, Stepped, Refused, Read, Quieted, Recorded, Asked, Refuses, Reads, Asks, where_named, peeking, asked, reply_of, most_bytes, world_with, recorded, joined, carried, step, step_at, effective_moment}
+use Rattle.fh_hub.specs.World.{World, empty, Stepped, Refused, Read, Quieted, Recorded, Dispatch, Refuses, Reads, Asks, where_named, reads_items, dispatch, reply_of, most_bytes, world_with, recorded, unless_full, unless_refused, stepped_by, step, step_at, effective_moment}
 use Rattle.fh_hub.specs.Replay.{Entry, Event, world_after, after, replay_from, replay, event_of, trace_from, trace}
 
 -- what a command asks of the queues, where it asks anything
@@ -37,35 +37,36 @@ pub record Made (w : World) (command : Command) (now : ℕ) (new : World) (reply
   pub replies : reply ≡ reply_of done
   pub last : new.last ≡ effective_moment w now
 
-named : (queue : List ℕ) (given : Asked) (ask : Ask) → where_named queue given ≡ Asks ask → given ≡ Asks ask
+named : (queue : List ℕ) (given : Dispatch) (ask : Ask) → where_named queue given ≡ Asks ask → given ≡ Asks ask
 named queue given ask is = by_test (is_queue_name queue) is
   where
     by_test : (good : Bool) → (if good then given else Refuses BadName) ≡ Asks ask → given ≡ Asks ask
     by_test true is = is
     by_test false is = absurd (cc)
 
-peeks_nothing : (found : Result (List Item) Rule) (ask : Ask) → peeking found ≡ Asks ask → ⊥
+-- a peek asks the queues for nothing
+pub peeks_nothing : (found : Result (List Item) Rule) (ask : Ask) → reads_items found ≡ Asks ask → ⊥
 peeks_nothing (Ok items) ask is = cc
 peeks_nothing (Err rule) ask is = cc
 
-asks_as_told : (part : QueuePart) (command : Command) (m : ℕ) (ask : Ask) → asked part command m ≡ Asks ask → ask_of command ≡ ask
-unfolding asked
+asks_as_told : (part : QueuePart) (command : Command) (m : ℕ) (ask : Ask) → dispatch part command m ≡ Asks ask → ask_of command ≡ ask
+unfolding dispatch
 asks_as_told part (MakeQueue queue) m ask is = let same = named queue (Asks (asks.Make queue)) ask is in cc
 asks_as_told part (Put queue delay ttl text) m ask is = let same = named queue (Asks (asks.Put queue delay ttl text None)) ask is in cc
 asks_as_told part (Take queue count hold) m ask is = let same = named queue (Asks (asks.Take queue count hold)) ask is in cc
 asks_as_told part (Update queue number receipt hold text) m ask is = let same = named queue (Asks (asks.Update queue number receipt hold text)) ask is in cc
 asks_as_told part (Delete queue number receipt) m ask is = let same = named queue (Asks (asks.Delete queue number receipt)) ask is in cc
 asks_as_told part (Clear queue) m ask is = let same = named queue (Asks (asks.Clear queue)) ask is in cc
-asks_as_told part (Peek queue count) m ask is = absurd (peeks_nothing (peeked part queue count m) ask (named queue (peeking (peeked part queue count m)) ask is))
+asks_as_told part (Peek queue count) m ask is = absurd (peeks_nothing (peeked part queue count m) ask (named queue (reads_items (peeked part queue count m)) ask is))
 asks_as_told part (Locate number) m ask is = absurd (cc)
 
 module _ (w : World) (command : Command) (now : ℕ) (new : World) (reply : Reply) where
   abbrev m : ℕ
   m = effective_moment w now
 
-  from_recorded : (size : ℕ) (made : Outcome) (full : Bool) → outcome w.queues (ask_of command) m ≡ Ok made → is_quiet made.1 ≡ false → (if full then Refused (JournalFull w.gate) else Recorded (world_with w made.0 m size) (reply_of made.1)) ≡ Recorded new reply → Made w command now new reply
-  from_recorded size made true makes loud is = absurd (cc)
-  from_recorded size made false makes loud is =
+  from_unless_full : (size : ℕ) (made : Outcome) (full : Bool) → outcome w.queues (ask_of command) m ≡ Ok made → is_quiet made.1 ≡ false → (if full then Refused (JournalFull w.gate) else recorded w m size made) ≡ Recorded new reply → Made w command now new reply
+  from_unless_full size made true makes loud is = absurd (cc)
+  from_unless_full size made false makes loud is =
       let new_is : world_with w made.0 m size ≡ new = cc in
       let reply_is : reply_of made.1 ≡ reply = cc in
       record {
@@ -76,23 +77,23 @@ module _ (w : World) (command : Command) (now : ℕ) (new : World) (reply : Repl
         last = sym (ap (λ (x : World). x.last) new_is);
       }
 
-  from_done : (size : ℕ) (made : Outcome) (quiet : Bool) → outcome w.queues (ask_of command) m ≡ Ok made → is_quiet made.1 ≡ quiet → (if quiet then Quieted (reply_of made.1) else recorded w m size made) ≡ Recorded new reply → Made w command now new reply
-  from_done size made true makes loud is = absurd (cc)
-  from_done size made false makes loud is = from_recorded size made (nat_lt most_bytes (w.gate + 6 + size)) makes loud is
+  from_unless_quiet : (size : ℕ) (made : Outcome) (quiet : Bool) → outcome w.queues (ask_of command) m ≡ Ok made → is_quiet made.1 ≡ quiet → (if quiet then Quieted (reply_of made.1) else unless_full w m size made) ≡ Recorded new reply → Made w command now new reply
+  from_unless_quiet size made true makes loud is = absurd (cc)
+  from_unless_quiet size made false makes loud is = from_unless_full size made (nat_lt most_bytes (w.gate + 6 + size)) makes loud is
 
-  from_joined : (size : ℕ) (found : Result Outcome Rule) → outcome w.queues (ask_of command) m ≡ found → joined w m size found ≡ Recorded new reply → Made w command now new reply
-  from_joined size (Err rule) makes is = absurd (cc)
-  from_joined size (Ok made) makes is = from_done size made (is_quiet made.1) makes refl is
+  from_unless_refused : (size : ℕ) (found : Result Outcome Rule) → outcome w.queues (ask_of command) m ≡ found → unless_refused w m size found ≡ Recorded new reply → Made w command now new reply
+  from_unless_refused size (Err rule) makes is = absurd (cc)
+  from_unless_refused size (Ok made) makes is = from_unless_quiet size made (is_quiet made.1) makes refl is
 
-  from_carried : (size : ℕ) (a : Asked) → asked w.queues command m ≡ a → carried w m size a ≡ Recorded new reply → Made w command now new reply
-  from_carried size (Refuses rule) asking is = absurd (cc)
-  from_carried size (Reads r) asking is = absurd (cc)
-  from_carried size (Asks ask) asking is =
-      from_joined size (outcome w.queues ask m) (ap (λ (a : Ask). outcome w.queues a m) (asks_as_told w.queues command m ask asking)) is
+  from_stepped_by : (size : ℕ) (a : Dispatch) → dispatch w.queues command m ≡ a → stepped_by w m size a ≡ Recorded new reply → Made w command now new reply
+  from_stepped_by size (Refuses rule) asking is = absurd (cc)
+  from_stepped_by size (Reads r) asking is = absurd (cc)
+  from_stepped_by size (Asks ask) asking is =
+      from_unless_refused size (outcome w.queues ask m) (ap (λ (a : Ask). outcome w.queues a m) (asks_as_told w.queues command m ask asking)) is
 
   from_timed : (timely : Bool) → (if timely then step_at w command m else Refused MomentTooLate) ≡ Recorded new reply → Made w command now new reply
   unfolding step_at
-  from_timed true is = from_carried (length (entry m command)) (asked w.queues command m) refl is
+  from_timed true is = from_stepped_by (length (entry m command)) (dispatch w.queues command m) refl is
   from_timed false is = absurd (cc)
 
   pub made : step w command now ≡ Recorded new reply → Made w command now new reply

@@ -1,10 +1,10 @@
--- What the code asks, as the machine's question.
+-- Where the code sends a command first, as the machine does.
 use Rattle.fh_queues.specs.Asks.{ask_of}
-use Rattle.fh_hub.specs.World.{Asked, Refuses, Reads, Asks}
-use Rattle.fh_hub.specs.declared.asking.Asked.TheVariants as code
-use Rattle.fh_hub.specs.declared.asking.Asked as declared
+use Rattle.fh_hub.specs.World.{Dispatch, Refuses, Reads, Asks}
+use Rattle.fh_hub.specs.declared.asking.Dispatch.TheVariants as code
+use Rattle.fh_hub.specs.declared.asking.Dispatch as declared
 
-abbrev pub asked_of : declared.Asked → Asked
-asked_of (code.Refuses rule) = Refuses rule
-asked_of (code.Reads reply) = Reads reply
-asked_of (code.Asks ask) = Asks (ask_of ask)
+abbrev pub dispatch_of : declared.Dispatch → Dispatch
+dispatch_of (code.Refuses rule) = Refuses rule
+dispatch_of (code.Reads reply) = Reads reply
+dispatch_of (code.Asks ask) = Asks (ask_of ask)

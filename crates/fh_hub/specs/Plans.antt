@@ -3,9 +3,12 @@ use Rattle.std.specs.Prelude.{◌≡◌, ⊤, ℕ, ◌≤◌, length}
 use Rattle.fh_event.specs.declared.faults.PlanFault.{PlanFault}
 use Rattle.fh_event.specs.declared.faults.PlanFault.TheVariants.{Rule as OfRule, NoMemory}
 use Rattle.fh_event.specs.declared.command.Command.{Command}
+use Rattle.fh_event.specs.Entries.{entry}
+use Rattle.fh_queues.specs.Asks.{Ask}
 use Rattle.fh_queues.specs.Edits as queue_edits
-use Rattle.fh_hub.specs.World.{Stepped, Refused, Read, Quieted, Recorded, world_with, reply_of, effective_moment}
-use Rattle.fh_hub.specs.Replay.{Entry}
+use Rattle.fh_queues.specs.Outcome.{Outcome, outcome}
+use Rattle.fh_hub.specs.World.{Stepped, Refused, Read, Quieted, recorded, unless_refused, effective_moment}
+use Rattle.fh_hub.specs.Replay.{Entry, entry_for}
 use Rattle.fh_hub.specs.History.{entry_of}
 use Rattle.fh_hub.specs.State.{HubState, world_of, IsPlanned}
 use Rattle.fh_hub.specs.declared.plan.Change.{Change}
@@ -15,14 +18,26 @@ use Rattle.fh_hub.specs.declared.plan.Plan.TheVariants.{Reads, Quiet, Records}
 
 -- the entry of a command at the effective moment
 abbrev pub entry_at : HubState → Command → ℕ → Entry
-entry_at s command now = record { command = command; moment = effective_moment (world_of s) now }
+entry_at s command now = entry_for command (effective_moment (world_of s) now)
+
+-- the step that an ask of the queues comes to, by a command that acts at this moment
+abbrev pub step_of_ask : HubState → Command → Ask → ℕ → Stepped
+step_of_ask s command ask m = unless_refused (world_of s) m (length (entry m command)) (outcome s.queues.part ask m)
+
+-- what the queues make of a planned change, and what they answer
+abbrev pub outcome_of : HubState → Change → Outcome
+outcome_of s change = queue_edits.planned s.queues.part change.queues
+
+-- the change is what the machine makes of this entry
+abbrev pub IsPlannedAs : HubState → Change → Entry → Type 0
+IsPlannedAs s change e = IsPlanned s (outcome_of s change) change.payload e
 
 -- the change is recorded, as this entry
 pub record IsChangeFor (s : HubState) (stepped : Stepped) (e : Entry) (change : Change) : Type 0 where
-  pub steps : stepped ≡ Recorded (world_with (world_of s) (queue_edits.planned s.queues.part change.queues).0 e.moment (length change.payload)) (reply_of (queue_edits.planned s.queues.part change.queues).1)
+  pub steps : stepped ≡ recorded (world_of s) e.moment (length change.payload) (outcome_of s change)
   pub moment : change.moment ≡ e.moment
   pub entry : entry_of change.payload ≡ e
-  pub planned : IsPlanned s (queue_edits.planned s.queues.part change.queues) change.payload e
+  pub planned : IsPlannedAs s change e
 
 -- the plan of a step with this answer, whose entry is this one where it is recorded
 abbrev pub IsPlanFor : HubState → Stepped → Entry → Plan → Type 0

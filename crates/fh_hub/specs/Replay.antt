@@ -10,6 +10,10 @@ pub record Entry : Type 0 where
   pub command : Command
   pub moment : ℕ
 
+-- the entry of a command that acts at this moment
+abbrev pub entry_for : Command → ℕ → Entry
+entry_for command m = record { command = command; moment = m }
+
 -- the bytes by which the journal keeps it
 abbrev pub bytes_of : Entry → List ℕ
 bytes_of e = entry e.moment e.command
@@ -81,7 +85,7 @@ abbrev pub noted_of : Command → ℕ → Stepped → List Entry
 noted_of command m (Refused rule) = []
 noted_of command m (Read reply) = []
 noted_of command m (Quieted reply) = []
-noted_of command m (Recorded new reply) = record { command = command; moment = m } ∷ []
+noted_of command m (Recorded new reply) = entry_for command m ∷ []
 
 abbrev pub noted : World → Command → ℕ → List Entry
 noted w command now = noted_of command (effective_moment w now) (step w command now)

@@ -5,7 +5,7 @@ use Rattle.fh_event.specs.Entries.{IsEntry}
 use Rattle.fh_journal.specs.Journal.{opened}
 use Rattle.fh_queues.specs.Edits as queue_edits
 use Rattle.fh_queues.specs.Outcome.{Outcome}
-use Rattle.fh_hub.specs.World.{World, Recorded, step, world_with, reply_of, most_bytes}
+use Rattle.fh_hub.specs.World.{World, recorded, step, most_bytes}
 use Rattle.fh_hub.specs.Replay.{Entry, payloads_of, replay, IsLegal}
 
 -- the stores, the last moment, the place of the next gate, and the history with the room that was reserved in it
@@ -40,7 +40,7 @@ pub record IsUnchanged (old new : HubState) : Type 0 where
 
 -- this part and answer are what the machine makes of the entry, whose bytes are these
 pub record IsPlanned (s : HubState) (made : Outcome) (payload : List ℕ) (e : Entry) : Type 0 where
-  pub steps : step (world_of s) e.command e.moment ≡ Recorded (world_with (world_of s) made.0 e.moment (length payload)) (reply_of made.1)
+  pub steps : step (world_of s) e.command e.moment ≡ recorded (world_of s) e.moment (length payload) made
   pub own_moment : s.last ≤ e.moment
   pub outcome : queue_edits.IsOutcome s.queues.part made
   pub spelled : IsEntry payload e.moment e.command

@@ -1,4 +1,5 @@
--- The world, and one step of it.
+-- The world, and one step of it. A step is judged in this order: the moment, the name of the queue, the rules of the
+-- queues, the answers that change nothing, and the room in the journal. What is left then is recorded.
 use Rattle.std.specs.Prelude.{ℕ, ◌+◌, max, nat_le, nat_lt, if◌then◌else◌, List, length, None, Result, Ok, Err}
 use Rattle.fh_base.specs.Moments.{greatest_moment}
 use Rattle.fh_base.specs.Names.{is_queue_name}
@@ -18,12 +19,13 @@ use Rattle.fh_queues.specs.Part.{QueuePart, no_queues}
 use Rattle.fh_queues.specs.Outcome.{Outcome, outcome, peeked, is_quiet}
 use Rattle.fh_queues.specs.Places.{place_of}
 
--- the stores' parts, the place of the journal's next gate, and the moment of the last entry
+-- the queues, the place of the journal's next gate, and the moment of the last entry
 pub record World : Type 0 where
   pub queues : QueuePart
   pub gate : ℕ
   pub last : ℕ
 
+-- before the first entry: the first gate stands behind a header of 6 bytes
 abbrev pub empty : World
 empty = record { queues = no_queues; gate = 6; last = 0 }
 
@@ -38,29 +40,32 @@ pub data Stepped : Type 0 where
   Quieted : Reply → Stepped
   Recorded : World → Reply → Stepped
 
--- what a command asks of the queues, or what is answered at once
-pub data Asked : Type 0 where
-  Refuses : Rule → Asked
-  Reads : Reply → Asked
-  Asks : Ask → Asked
+-- where a command goes first: it is refused or answered at once, or it asks the queues for a change
+pub data Dispatch : Type 0 where
+  Refuses : Rule → Dispatch
+  Reads : Reply → Dispatch
+  Asks : Ask → Dispatch
 
--- the name of a queue is tested before all else
-abbrev pub where_named : List ℕ → Asked → Asked
-where_named queue asked = if is_queue_name queue then asked else Refuses BadName
+-- the name of a queue is tested before all else that the command says
+abbrev pub where_named : List ℕ → Dispatch → Dispatch
+where_named queue given = if is_queue_name queue then given else Refuses BadName
 
-abbrev pub peeking : Result (List Item) Rule → Asked
-peeking (Ok items) = Reads (replies.Peeked items)
-peeking (Err rule) = Refuses rule
+-- a peek answers the items that it finds, or the rule of the queues that refuses it
+abbrev pub reads_items : Result (List Item) Rule → Dispatch
+reads_items (Ok items) = Reads (replies.Peeked items)
+reads_items (Err rule) = Refuses rule
 
-unfoldable pub asked : QueuePart → Command → ℕ → Asked
-asked part (MakeQueue queue) m = where_named queue (Asks (asks.Make queue))
-asked part (Put queue delay ttl text) m = where_named queue (Asks (asks.Put queue delay ttl text None))
-asked part (Take queue count hold) m = where_named queue (Asks (asks.Take queue count hold))
-asked part (Update queue number receipt hold text) m = where_named queue (Asks (asks.Update queue number receipt hold text))
-asked part (Delete queue number receipt) m = where_named queue (Asks (asks.Delete queue number receipt))
-asked part (Clear queue) m = where_named queue (Asks (asks.Clear queue))
-asked part (Peek queue count) m = where_named queue (peeking (peeked part queue count m))
-asked part (Locate number) m = Reads (replies.Located (place_of part number m))
+-- where each command goes at a moment: a peek and a locate only read, and each of the others is an ask of the queues
+unfoldable pub dispatch : QueuePart → Command → ℕ → Dispatch
+dispatch part (MakeQueue queue) m = where_named queue (Asks (asks.Make queue))
+dispatch part (Put queue delay ttl text) m = where_named queue (Asks (asks.Put queue delay ttl text None))
+dispatch part (Take queue count hold) m = where_named queue (Asks (asks.Take queue count hold))
+dispatch part (Update queue number receipt hold text) m =
+    where_named queue (Asks (asks.Update queue number receipt hold text))
+dispatch part (Delete queue number receipt) m = where_named queue (Asks (asks.Delete queue number receipt))
+dispatch part (Clear queue) m = where_named queue (Asks (asks.Clear queue))
+dispatch part (Peek queue count) m = where_named queue (reads_items (peeked part queue count m))
+dispatch part (Locate number) m = Reads (replies.Located (place_of part number m))
 
 -- the reply that the queues' answer makes
 abbrev pub reply_of : QueueDone → Reply
@@ -78,32 +83,39 @@ reply_of done.Swept = replies.Empty
 abbrev pub most_bytes : ℕ
 most_bytes = 1073741824
 
--- the world with the queues' new part, behind an entry of so many bytes
+-- the world with the queues as an entry of so many bytes left them; a gate and a length, 5 bytes, precede the entry
 abbrev pub world_with : World → QueuePart → ℕ → ℕ → World
 world_with w queues m size = record { queues = queues; gate = w.gate + 5 + size; last = m }
 
--- recorded where the journal has room for the entry
+-- the recorded step of what the queues make of an ask, by the moment and the size of its entry
 abbrev pub recorded : World → ℕ → ℕ → Outcome → Stepped
-recorded w m size made =
-    if nat_lt most_bytes (w.gate + 6 + size) then Refused (JournalFull w.gate)
-    else Recorded (world_with w made.0 m size) (reply_of made.1)
+recorded w m size made = Recorded (world_with w made.0 m size) (reply_of made.1)
 
-abbrev pub done_by : World → ℕ → ℕ → Outcome → Stepped
-done_by w m size made = if is_quiet made.1 then Quieted (reply_of made.1) else recorded w m size made
+-- recorded where the journal has room for the entry and the gate behind it, and refused as full where it hasn't
+abbrev pub unless_full : World → ℕ → ℕ → Outcome → Stepped
+unless_full w m size made =
+    if nat_lt most_bytes (w.gate + 6 + size) then Refused (JournalFull w.gate) else recorded w m size made
 
-abbrev pub joined : World → ℕ → ℕ → Result Outcome Rule → Stepped
-joined w m size (Err rule) = Refused rule
-joined w m size (Ok made) = done_by w m size made
+-- answered without an entry where the queues change nothing
+abbrev pub unless_quiet : World → ℕ → ℕ → Outcome → Stepped
+unless_quiet w m size made = if is_quiet made.1 then Quieted (reply_of made.1) else unless_full w m size made
 
-abbrev pub carried : World → ℕ → ℕ → Asked → Stepped
-carried w m size (Refuses rule) = Refused rule
-carried w m size (Reads reply) = Read reply
-carried w m size (Asks ask) = joined w m size (outcome w.queues ask m)
+-- refused by the first rule of the queues that the ask breaks
+abbrev pub unless_refused : World → ℕ → ℕ → Result Outcome Rule → Stepped
+unless_refused w m size (Err rule) = Refused rule
+unless_refused w m size (Ok made) = unless_quiet w m size made
+
+-- the step that a command makes from where it goes: what is answered at once is the answer, and an ask is judged
+abbrev pub stepped_by : World → ℕ → ℕ → Dispatch → Stepped
+stepped_by w m size (Refuses rule) = Refused rule
+stepped_by w m size (Reads reply) = Read reply
+stepped_by w m size (Asks ask) = unless_refused w m size (outcome w.queues ask m)
 
 -- one step, by a command that acts at this moment
 unfoldable pub step_at : World → Command → ℕ → Stepped
-step_at w command m = carried w m (length (entry m command)) (asked w.queues command m)
+step_at w command m = stepped_by w m (length (entry m command)) (dispatch w.queues command m)
 
 -- one step, by a command and the moment handed in
 unfoldable pub step : World → Command → ℕ → Stepped
-step w command now = if nat_le now greatest_moment then step_at w command (effective_moment w now) else Refused MomentTooLate
+step w command now =
+    if nat_le now greatest_moment then step_at w command (effective_moment w now) else Refused MomentTooLate

@@ -1,8 +1,8 @@
-// What a command asks of the queues, or what is answered at once.
+// Where a command goes first: it is answered at once, or it asks the queues for a change.
 ghost use Rattle.std.specs.Prelude.{◌≡◌, IfOk, None, option_map};
 ghost use Rattle.fh_event.specs.declared.command.Command.TheVariants.{MakeQueue, Put, Take, Update, Delete, Clear, Peek};
-ghost use Rattle.fh_hub.specs.World.{Asks, where_named, peeking, asked};
-ghost use Rattle.fh_hub.specs.Asking.{asked_of};
+ghost use Rattle.fh_hub.specs.World.{Asks, where_named, reads_items, dispatch};
+ghost use Rattle.fh_hub.specs.Asking.{dispatch_of};
 ghost use Rattle.fh_queues.specs.Edits.{QueueState};
 ghost use Rattle.fh_queues.specs.Outcome.{peeked};
 ghost use Rattle.fh_queues.specs.Asks as asks;
@@ -12,70 +12,71 @@ use fh_event::{Command, PlanFault, Reply, Text};
 use fh_queues::{QueueAsk, Queues};
 use std::alloc::Global;
 
-/// What a command asks of the queues, or what is answered at once.
+/// Where a command goes first: it is refused or answered at once, or it asks the queues for a change.
 #[derive(Drop)]
-pub(crate) enum Asked<'a> {
+pub(crate) enum Dispatch<'a> {
     Refuses(Rule),
     Reads(Reply),
     Asks(QueueAsk<'a>),
 }
 
-impl<'a> Asked<'a> {
-    /// What a command asks at a moment.
-    #[tactic(auto, unfolding(crate::specs::World::asked))]
+impl<'a> Dispatch<'a> {
+    /// Where a command goes at a moment.
+    #[tactic(auto, unfolding(crate::specs::World::dispatch))]
     pub(crate) fn of(
         alloc: Global,
         queues: &Queues,
         command: &'a Command,
         m: Moment,
-    ) -> Result<Asked<'a>, NoMemory>
-        ensures { IfOk result (λ a. asked_of a ≡ asked queues.now.part command.entry.now m) }
+    ) -> Result<Dispatch<'a>, NoMemory>
+        ensures { IfOk result (λ a. dispatch_of a ≡ dispatch queues.now.part command.entry.now m) }
     {
         match command {
-            Command::MakeQueue { queue } => Ok(Asked::make(queue)),
+            Command::MakeQueue { queue } => Ok(Dispatch::make(queue)),
             Command::Put {
                 queue,
                 delay,
                 ttl,
                 text,
-            } => Ok(Asked::put(queue, *delay, *ttl, text)),
-            Command::Take { queue, count, hold } => Ok(Asked::take(queue, *count, *hold)),
+            } => Ok(Dispatch::put(queue, *delay, *ttl, text)),
+            Command::Take { queue, count, hold } => Ok(Dispatch::take(queue, *count, *hold)),
             Command::Update {
                 queue,
                 number,
                 receipt,
                 hold,
                 text,
-            } => Ok(Asked::update(queue, *number, *receipt, *hold, text.as_ref())),
+            } => Ok(Dispatch::update(queue, *number, *receipt, *hold, text.as_ref())),
             Command::Delete {
                 queue,
                 number,
                 receipt,
-            } => Ok(Asked::delete(queue, *number, *receipt)),
-            Command::Clear { queue } => Ok(Asked::clear(queue)),
-            Command::Peek { queue, count } => Asked::peek(alloc, queues, queue, *count, m),
+            } => Ok(Dispatch::delete(queue, *number, *receipt)),
+            Command::Clear { queue } => Ok(Dispatch::clear(queue)),
+            Command::Peek { queue, count } => Dispatch::peek(alloc, queues, queue, *count, m),
             Command::Locate { number } => {
                 let place = queues.place_of(*number, m);
-                Ok(Asked::Reads(Reply::Located { place }))
+                Ok(Dispatch::Reads(Reply::Located { place }))
             }
         }
     }
 
-    fn make(queue: &Text) -> Asked<'a>
-        ensures { asked_of result ≡ where_named queue.now (Asks (asks.Make queue.now)) }
+    fn make(queue: &Text) -> Dispatch<'a>
+        ensures { dispatch_of result ≡ where_named queue.now (Asks (asks.Make queue.now)) }
     {
         match QueueName::read(queue.as_str()) {
-            None => Asked::Refuses(Rule::BadName),
-            Some(queue) => Asked::Asks(QueueAsk::Make { queue }),
+            None => Dispatch::Refuses(Rule::BadName),
+            Some(queue) => Dispatch::Asks(QueueAsk::Make { queue }),
         }
     }
 
-    fn put(queue: &Text, delay: u64, ttl: Option<u64>, text: &'a Text) -> Asked<'a>
-        ensures { asked_of result ≡ where_named queue.now (Asks (asks.Put queue.now delay ttl text.entry.now None)) }
+    fn put(queue: &Text, delay: u64, ttl: Option<u64>, text: &'a Text) -> Dispatch<'a>
+        ensures { dispatch_of result
+            ≡ where_named queue.now (Asks (asks.Put queue.now delay ttl text.entry.now None)) }
     {
         match QueueName::read(queue.as_str()) {
-            None => Asked::Refuses(Rule::BadName),
-            Some(queue) => Asked::Asks(QueueAsk::Put {
+            None => Dispatch::Refuses(Rule::BadName),
+            Some(queue) => Dispatch::Asks(QueueAsk::Put {
                 queue,
                 delay,
                 ttl,
@@ -85,12 +86,12 @@ impl<'a> Asked<'a> {
         }
     }
 
-    fn take(queue: &Text, count: u64, hold: u64) -> Asked<'a>
-        ensures { asked_of result ≡ where_named queue.now (Asks (asks.Take queue.now count hold)) }
+    fn take(queue: &Text, count: u64, hold: u64) -> Dispatch<'a>
+        ensures { dispatch_of result ≡ where_named queue.now (Asks (asks.Take queue.now count hold)) }
     {
         match QueueName::read(queue.as_str()) {
-            None => Asked::Refuses(Rule::BadName),
-            Some(queue) => Asked::Asks(QueueAsk::Take { queue, count, hold }),
+            None => Dispatch::Refuses(Rule::BadName),
+            Some(queue) => Dispatch::Asks(QueueAsk::Take { queue, count, hold }),
         }
     }
 
@@ -100,12 +101,13 @@ impl<'a> Asked<'a> {
         receipt: u64,
         hold: u64,
         text: Option<&'a Text>,
-    ) -> Asked<'a>
-        ensures { asked_of result ≡ where_named queue.now (Asks (asks.Update queue.now number receipt hold (option_map (λ t. t.now) text.entry))) }
+    ) -> Dispatch<'a>
+        ensures { dispatch_of result ≡ where_named queue.now
+            (Asks (asks.Update queue.now number receipt hold (option_map (λ t. t.now) text.entry))) }
     {
         match QueueName::read(queue.as_str()) {
-            None => Asked::Refuses(Rule::BadName),
-            Some(queue) => Asked::Asks(QueueAsk::Update {
+            None => Dispatch::Refuses(Rule::BadName),
+            Some(queue) => Dispatch::Asks(QueueAsk::Update {
                 queue,
                 number,
                 receipt,
@@ -115,12 +117,12 @@ impl<'a> Asked<'a> {
         }
     }
 
-    fn delete(queue: &Text, number: u64, receipt: u64) -> Asked<'a>
-        ensures { asked_of result ≡ where_named queue.now (Asks (asks.Delete queue.now number receipt)) }
+    fn delete(queue: &Text, number: u64, receipt: u64) -> Dispatch<'a>
+        ensures { dispatch_of result ≡ where_named queue.now (Asks (asks.Delete queue.now number receipt)) }
     {
         match QueueName::read(queue.as_str()) {
-            None => Asked::Refuses(Rule::BadName),
-            Some(queue) => Asked::Asks(QueueAsk::Delete {
+            None => Dispatch::Refuses(Rule::BadName),
+            Some(queue) => Dispatch::Asks(QueueAsk::Delete {
                 queue,
                 number,
                 receipt,
@@ -128,12 +130,12 @@ impl<'a> Asked<'a> {
         }
     }
 
-    fn clear(queue: &Text) -> Asked<'a>
-        ensures { asked_of result ≡ where_named queue.now (Asks (asks.Clear queue.now)) }
+    fn clear(queue: &Text) -> Dispatch<'a>
+        ensures { dispatch_of result ≡ where_named queue.now (Asks (asks.Clear queue.now)) }
     {
         match QueueName::read(queue.as_str()) {
-            None => Asked::Refuses(Rule::BadName),
-            Some(queue) => Asked::Asks(QueueAsk::Clear { queue }),
+            None => Dispatch::Refuses(Rule::BadName),
+            Some(queue) => Dispatch::Asks(QueueAsk::Clear { queue }),
         }
     }
 
@@ -143,15 +145,16 @@ impl<'a> Asked<'a> {
         queue: &Text,
         count: u64,
         m: Moment,
-    ) -> Result<Asked<'a>, NoMemory>
-        ensures { IfOk result (λ a. asked_of a ≡ where_named queue.now (peeking (peeked queues.now.part queue.now count m))) }
+    ) -> Result<Dispatch<'a>, NoMemory>
+        ensures { IfOk result (λ a. dispatch_of a
+            ≡ where_named queue.now (reads_items (peeked queues.now.part queue.now count m))) }
     {
         let Some(queue) = QueueName::read(queue.as_str()) else {
-            return Ok(Asked::Refuses(Rule::BadName));
+            return Ok(Dispatch::Refuses(Rule::BadName));
         };
         match queues.peek(alloc, &queue, count, m) {
-            Ok(items) => Ok(Asked::Reads(Reply::Peeked { items })),
-            Err(PlanFault::Rule(rule)) => Ok(Asked::Refuses(rule)),
+            Ok(items) => Ok(Dispatch::Reads(Reply::Peeked { items })),
+            Err(PlanFault::Rule(rule)) => Ok(Dispatch::Refuses(rule)),
             Err(PlanFault::NoMemory) => Err(NoMemory),
         }
     }

@@ -23,7 +23,10 @@ impl Model for History {
 
     ghost Value = { HistoryState };
 
-    ghost view = { λ h. record { entries = map entry_of h.payloads.items; room = vec_capacity h.payloads - vec_len h.payloads } };
+    ghost view = { λ h. record {
+      entries = map entry_of h.payloads.items;
+      room = vec_capacity h.payloads - vec_len h.payloads;
+    } };
 
     ghost invariant = { λ h. payloads_of (map entry_of h.payloads.items) ≡ h.payloads.items };
 }
@@ -54,7 +57,8 @@ impl History {
     /// The bytes of the entry at this place, counted from 0.
     pub fn entry(&self, index: u64) -> Option<&[u8]>
         ensures { MatchOption result (length self.now.entries ≤ index)
-            (λ bytes. (index < length self.now.entries) × HoldsAt (λ e. bytes.now ≡ bytes_of e) self.now.entries index) }
+            (λ bytes. (index < length self.now.entries)
+            × HoldsAt (λ e. bytes.now ≡ bytes_of e) self.now.entries index) }
     {
         let payload = self.payloads.get(index as usize)?;
         Some(payload.as_slice())

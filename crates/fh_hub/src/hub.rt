@@ -30,12 +30,11 @@ impl<'d, J: Disk> Hub<'d, J> {
     ghost use Rattle.fh_disk.specs.Moments.{LeavesOnly};
     ghost use Rattle.fh_journal.specs.Keeping.{Keeps, StaysTold};
     ghost use Rattle.fh_journal.specs.Mounting.{IsBeingMade};
-    ghost use Rattle.fh_queues.specs.Edits.{planned as planned_queues};
     ghost use Rattle.fh_queues.specs.Places.{place_of};
     ghost use Rattle.fh_hub.specs.World.{Recorded, step, effective_moment};
     ghost use Rattle.fh_hub.specs.Replay.{Entry, payloads_of, world_after, noted};
-    ghost use Rattle.fh_hub.specs.State.{world_of, IsFaithful, IsIdle, IsPlanned, IsUnchanged};
-    ghost use Rattle.fh_hub.specs.Plans.{entry_at};
+    ghost use Rattle.fh_hub.specs.State.{world_of, IsFaithful, IsIdle, IsUnchanged};
+    ghost use Rattle.fh_hub.specs.Plans.{entry_at, IsPlannedAs};
     ghost use Rattle.fh_hub.specs.Hub.{Answers, HasStepCause, IsDurable, KeepsIn, LeavesSince, MayStandFor, StandsForHistory, faults_of, is_recorded};
     ghost use Rattle.fh_hub.specs.Mounting.{MountsHistory};
 
@@ -56,28 +55,39 @@ impl<'d, J: Disk> Hub<'d, J> {
 
     /// Mounts the journal of a disk, by `prepare` and `over`. Beside a fault it gives the disk back.
     pub fn mount(alloc: Global, disk: &'d mut J) -> Result<Hub<'d, J>, (HubFault, &'d mut J)>
-        ensures stands { IfOk result (λ hub. Keeps (J.told hub.journal.disk.now) (J.may_leave hub.journal.disk.now) false
+        ensures stands { IfOk result
+            (λ hub. Keeps (J.told hub.journal.disk.now) (J.may_leave hub.journal.disk.now) false
             (payloads_of hub.state.history) [] hub.journal.gate) }
         ensures faithful { IfOk result (λ hub. IsFaithful hub.state) }
         ensures whole { IfOk result (λ hub. hub.journal.torn ≡ false) }
-        ensures durable { IfOk result (λ hub. OnlyTold (J.told hub.journal.disk.now) (J.may_leave hub.journal.disk.now)) }
-        ensures stood { IfOk result (λ hub. IfSome (J.told disk.entry.now) (StandsForHistory hub.state.history)) }
-        ensures mounted { IfOk result (λ hub. MountsHistory (J.told disk.entry.now) (J.told hub.journal.disk.now) None) }
-        ensures refused { IfErr result (λ refused. MountsHistory (J.told disk.entry.now) (J.told refused.1.now) (Some refused.0)) }
-        ensures passed { IfOk result (λ hub. J.disk_faults hub.journal.disk.now ≡ J.disk_faults disk.entry.now) }
+        ensures durable { IfOk result
+            (λ hub. OnlyTold (J.told hub.journal.disk.now) (J.may_leave hub.journal.disk.now)) }
+        ensures stood { IfOk result
+            (λ hub. IfSome (J.told disk.entry.now) (StandsForHistory hub.state.history)) }
+        ensures mounted { IfOk result
+            (λ hub. MountsHistory (J.told disk.entry.now) (J.told hub.journal.disk.now) None) }
+        ensures refused { IfErr result
+            (λ refused. MountsHistory (J.told disk.entry.now) (J.told refused.1.now) (Some refused.0)) }
+        ensures passed { IfOk result
+            (λ hub. J.disk_faults hub.journal.disk.now ≡ J.disk_faults disk.entry.now) }
         ensures fault { IfErr result (λ refused. refused.0 ≡ HubFault.DiskFault
             → Rose (J.disk_faults disk.entry.now) (J.disk_faults refused.1.now)) }
         ensures any_moment { MatchResult result
-            (λ hub. IfSome (J.told disk.entry.now) (λ file. LeavesOnly J.moment J.left_since disk.entry.now hub.journal.disk.now
+            (λ hub. IfSome (J.told disk.entry.now)
+            (λ file. LeavesOnly J.moment J.left_since disk.entry.now hub.journal.disk.now
             (λ c. J.may_leave disk.entry.now c ⊎ IsBeingMade file c)))
-            (λ refused. IfSome (J.told disk.entry.now) (λ file. LeavesOnly J.moment J.left_since disk.entry.now refused.1.now
+            (λ refused. IfSome (J.told disk.entry.now)
+            (λ file. LeavesOnly J.moment J.left_since disk.entry.now refused.1.now
             (λ c. J.may_leave disk.entry.now c ⊎ IsBeingMade file c))) }
         ensures same_history { (history : List Entry) → MatchResult result
-            (λ hub. IfSome (J.told disk.entry.now) (λ file. StandsForHistory history file → LeavesOnly J.moment J.left_since
-            disk.entry.now hub.journal.disk.now (λ c. J.may_leave disk.entry.now c ⊎ StandsForHistory history c)))
-            (λ refused. IfSome (J.told disk.entry.now) (λ file. StandsForHistory history file → LeavesOnly J.moment J.left_since
-            disk.entry.now refused.1.now (λ c. J.may_leave disk.entry.now c ⊎ StandsForHistory history c))) }
-        ensures count { MatchResult result (λ hub. J.disk_faults disk.entry.now ≤ J.disk_faults hub.journal.disk.now)
+            (λ hub. IfSome (J.told disk.entry.now) (λ file. StandsForHistory history file
+            → LeavesOnly J.moment J.left_since disk.entry.now hub.journal.disk.now
+            (λ c. J.may_leave disk.entry.now c ⊎ StandsForHistory history c)))
+            (λ refused. IfSome (J.told disk.entry.now) (λ file. StandsForHistory history file
+            → LeavesOnly J.moment J.left_since disk.entry.now refused.1.now
+            (λ c. J.may_leave disk.entry.now c ⊎ StandsForHistory history c))) }
+        ensures count { MatchResult result
+            (λ hub. J.disk_faults disk.entry.now ≤ J.disk_faults hub.journal.disk.now)
             (λ refused. J.disk_faults disk.entry.now ≤ J.disk_faults refused.1.now) }
         ensures same { MatchResult result (λ hub. hub.journal.disk.ghost_name ≡ disk.entry.ghost_name)
             (λ refused. refused.1.ghost_name ≡ disk.entry.ghost_name) }
@@ -100,7 +110,8 @@ impl<'d, J: Disk> Hub<'d, J> {
     /// entry. Takes no memory.
     pub fn place_of(&self, number: u64, now: u64) -> Place
         requires { now ≤ greatest_moment }
-        ensures { result ≡ place_of self.now.state.queues.part number (effective_moment (world_of self.now.state) now) }
+        ensures { result
+            ≡ place_of self.now.state.queues.part number (effective_moment (world_of self.now.state) now) }
     {
         let now = Moment::new(now).unwrap();
         self.state.place_of(number, now)
@@ -119,24 +130,31 @@ impl<'d, J: Disk> Hub<'d, J> {
     /// step that isn't recorded makes none. After any fault the world and the history are as before.
     #[tactic(auto, using(crate::proofs::Crashes::stays_as_told))]
     pub fn step(&mut self, alloc: Global, command: &Command, now: u64) -> Result<Reply, StepFault>
-        ensures answers { Answers result (step (world_of self.old.state) command.now now) (faults_of self.old) (faults_of self.new) }
+        ensures answers { Answers result (step (world_of self.old.state) command.now now)
+            (faults_of self.old) (faults_of self.new) }
         ensures world { OnOk result (world_of self.new.state
             ≡ world_after (world_of self.old.state) (step (world_of self.old.state) command.now now)) }
-        ensures history { OnOk result (self.new.state.history ≡ self.old.state.history ++ noted (world_of self.old.state) command.now now) }
+        ensures history { OnOk result (self.new.state.history
+            ≡ self.old.state.history ++ noted (world_of self.old.state) command.now now) }
         ensures fault { OnErr result (IsUnchanged self.old.state self.new.state) }
         ensures untouched { is_recorded (step (world_of self.old.state) command.now now) ≡ false
-            → (self.new.journal.disk.now ≡ self.old.journal.disk.now) × (self.new.journal.torn ≡ self.old.journal.torn) }
+            → (self.new.journal.disk.now ≡ self.old.journal.disk.now)
+            × (self.new.journal.torn ≡ self.old.journal.torn) }
         ensures passed { OnOk result (faults_of self.new ≡ faults_of self.old) }
         ensures memory { IsErrOf result StepFault.NoMemory
-            → (self.new.journal.disk.now ≡ self.old.journal.disk.now) × (self.new.journal.torn ≡ self.old.journal.torn) }
+            → (self.new.journal.disk.now ≡ self.old.journal.disk.now)
+            × (self.new.journal.torn ≡ self.old.journal.torn) }
         ensures keeps { (failed : Entry) → KeepsIn self.old failed
             → KeepsIn self.new failed ⊎ KeepsIn self.new (entry_at self.old.state command.now now) }
-        ensures durable { is_recorded (step (world_of self.old.state) command.now now) ≡ true → OnOk result (IsDurable self.new) }
-        ensures mended { is_recorded (step (world_of self.old.state) command.now now) ≡ true → OnOk result (self.new.journal.torn ≡ false) }
+        ensures durable { is_recorded (step (world_of self.old.state) command.now now) ≡ true
+            → OnOk result (IsDurable self.new) }
+        ensures mended { is_recorded (step (world_of self.old.state) command.now now) ≡ true
+            → OnOk result (self.new.journal.torn ≡ false) }
         ensures whole { OnOk result (self.old.journal.torn ≡ false → self.new.journal.torn ≡ false) }
         ensures told { StaysTold (J.told self.old.journal.disk.now) (J.told self.new.journal.disk.now) }
         ensures any_moment { (failed : Entry) → KeepsIn self.old failed → LeavesSince self.old self.new
-            (MayStandFor self.old.journal.torn self.old.state.history failed (noted (world_of self.old.state) command.now now)) }
+            (MayStandFor self.old.journal.torn self.old.state.history failed
+            (noted (world_of self.old.state) command.now now)) }
         ensures count { faults_of self.old ≤ faults_of self.new }
         ensures same { self.new.journal.disk.ghost_name ≡ self.old.journal.disk.ghost_name }
     {
@@ -150,21 +168,24 @@ impl<'d, J: Disk> Hub<'d, J> {
     #[tactic(auto, using(crate::proofs::Crashes::stays_as_told))]
     fn record(&mut self, change: Change) -> Result<Reply, StepFault>
         ghost e: { Entry }
-        requires planned { IsPlanned self.old.state (planned_queues self.old.state.queues.part change.queues) change.payload e }
+        requires planned { IsPlannedAs self.old.state change e }
         requires moment { change.moment ≡ e.moment }
-        ensures reply { IfOk result (λ reply. step (world_of self.old.state) e.command e.moment ≡ Recorded (world_of self.new.state) reply) }
+        ensures reply { IfOk result (λ reply. step (world_of self.old.state) e.command e.moment
+            ≡ Recorded (world_of self.new.state) reply) }
         ensures history { OnOk result (self.new.state.history ≡ self.old.state.history ++ e ∷ []) }
         ensures fault { OnErr result (IsUnchanged self.old.state self.new.state) }
         ensures passed { OnOk result (faults_of self.new ≡ faults_of self.old) }
         ensures memory { IsErrOf result StepFault.NoMemory
-            → (self.new.journal.disk.now ≡ self.old.journal.disk.now) × (self.new.journal.torn ≡ self.old.journal.torn) }
+            → (self.new.journal.disk.now ≡ self.old.journal.disk.now)
+            × (self.new.journal.torn ≡ self.old.journal.torn) }
         ensures cause { IfErr result (HasStepCause (faults_of self.old) (faults_of self.new)) }
-        ensures keeps { (failed : Entry) → KeepsIn self.old failed → KeepsIn self.new failed ⊎ KeepsIn self.new e }
+        ensures keeps { (failed : Entry) → KeepsIn self.old failed
+            → KeepsIn self.new failed ⊎ KeepsIn self.new e }
         ensures durable { OnOk result (IsDurable self.new) }
         ensures whole { OnOk result (self.new.journal.torn ≡ false) }
         ensures told { StaysTold (J.told self.old.journal.disk.now) (J.told self.new.journal.disk.now) }
-        ensures any_moment { (failed : Entry) → KeepsIn self.old failed
-            → LeavesSince self.old self.new (MayStandFor self.old.journal.torn self.old.state.history failed (e ∷ [])) }
+        ensures any_moment { (failed : Entry) → KeepsIn self.old failed → LeavesSince self.old self.new
+            (MayStandFor self.old.journal.torn self.old.state.history failed (e ∷ [])) }
         ensures count { faults_of self.old ≤ faults_of self.new }
         ensures same { self.new.journal.disk.ghost_name ≡ self.old.journal.disk.ghost_name }
     {

@@ -15,7 +15,8 @@ ghost use Rattle.fh_hub.specs.Guards.{GuardsMessages, RisesOver, HasOwnMoment};
 pub fn files_have_one_history()
     ensures one { (file : List ℕ) (history other : List Entry) → IsLegal history → IsLegal other
         → StandsForHistory history file → StandsForHistory other file → history ≡ other }
-    ensures broken { (file : List ℕ) (at : ℕ) (rule : HubRule) → 7 < length file → IsBrokenAt file at rule → StandsForNone file }
+    ensures broken { (file : List ℕ) (at : ℕ) (rule : HubRule)
+        → 7 < length file → IsBrokenAt file at rule → StandsForNone file }
     ensures first { (file : List ℕ) (at place : ℕ) (rule other : HubRule)
         → IsBrokenAt file at rule → IsBrokenAt file place other → (at ≡ place) × (rule ≡ other) }
 {}

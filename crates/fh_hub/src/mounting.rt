@@ -6,11 +6,11 @@ ghost use Rattle.fh_disk.specs.Moments.{LeavesOnly};
 ghost use Rattle.fh_journal.specs.Frames.{payloads_of as payloads_in, frames_from};
 ghost use Rattle.fh_journal.specs.Keeping.{Keeps, StaysTold};
 ghost use Rattle.fh_journal.specs.Mounting.{IsBeingMade};
-ghost use Rattle.fh_hub.specs.Replay.{Entry, payloads_of};
-ghost use Rattle.fh_queues.specs.Edits.{planned as planned_queues};
+ghost use Rattle.fh_hub.specs.Replay.{Entry, entry_for, payloads_of};
 ghost use Rattle.fh_event.specs.Entries.{IsEntry};
 ghost use Rattle.fh_hub.specs.History.{entry_of};
-ghost use Rattle.fh_hub.specs.State.{IsIdle, IsFaithful, IsPlanned, world_of};
+ghost use Rattle.fh_hub.specs.State.{IsIdle, IsFaithful, world_of};
+ghost use Rattle.fh_hub.specs.Plans.{IsPlannedAs};
 ghost use Rattle.fh_hub.specs.Hub.{StandsForHistory};
 ghost use Rattle.fh_hub.specs.Mounting.{HasEntryReason, HasPlanReason, HasReadReason, HasReplayReason, MountsHistory};
 
@@ -28,19 +28,23 @@ use std::alloc::Global;
 /// written, and a file that is refused stays as it is.
 #[tactic(auto, using(crate::proofs::Mounted::frames_refused, crate::proofs::Mounted::stood))]
 pub fn prepare<J: Disk>(alloc: Global, disk: &mut J) -> Result<State, HubFault>
-    ensures stands { IfOk result (λ state. Keeps (J.told disk.new) (J.may_leave disk.new) false (payloads_of state.history) [] state.gate) }
+    ensures stands { IfOk result (λ state. Keeps (J.told disk.new) (J.may_leave disk.new) false
+        (payloads_of state.history) [] state.gate) }
     ensures faithful { IfOk result IsFaithful }
     ensures idle { IfOk result IsIdle }
     ensures durable { OnOk result (OnlyTold (J.told disk.new) (J.may_leave disk.new)) }
     ensures stood { IfOk result (λ state. IfSome (J.told disk.old) (StandsForHistory state.history)) }
     ensures mounted { OnOk result (MountsHistory (J.told disk.old) (J.told disk.new) None) }
-    ensures refused { IfErr result (λ fault. MountsHistory (J.told disk.old) (J.told disk.new) (Some fault)) }
+    ensures refused { IfErr result
+        (λ fault. MountsHistory (J.told disk.old) (J.told disk.new) (Some fault)) }
     ensures passed { OnOk result (J.disk_faults disk.new ≡ J.disk_faults disk.old) }
-    ensures fault { IsErrOf result HubFault.DiskFault → Rose (J.disk_faults disk.old) (J.disk_faults disk.new) }
+    ensures fault { IsErrOf result HubFault.DiskFault
+        → Rose (J.disk_faults disk.old) (J.disk_faults disk.new) }
     ensures any_moment { IfSome (J.told disk.old) (λ file. LeavesOnly J.moment J.left_since disk.old disk.new
         (λ c. J.may_leave disk.old c ⊎ IsBeingMade file c)) }
-    ensures same_history { (history : List Entry) → IfSome (J.told disk.old) (λ file. StandsForHistory history file
-        → LeavesOnly J.moment J.left_since disk.old disk.new (λ c. J.may_leave disk.old c ⊎ StandsForHistory history c)) }
+    ensures same_history { (history : List Entry) → IfSome (J.told disk.old)
+        (λ file. StandsForHistory history file → LeavesOnly J.moment J.left_since disk.old disk.new
+        (λ c. J.may_leave disk.old c ⊎ StandsForHistory history c)) }
     ensures told { StaysTold (J.told disk.old) (J.told disk.new) }
     ensures count { J.disk_faults disk.old ≤ J.disk_faults disk.new }
 {
@@ -87,7 +91,8 @@ impl State {
     fn replay_entry(&mut self, alloc: Global, payload: &Payload) -> Result<(), EntryFault>
         requires idle { IsIdle self.old }
         requires faithful { IsFaithful self.old }
-        ensures history { OnOk result (payloads_of self.new.history ≡ payloads_of self.old.history ++ payload.now ∷ []) }
+        ensures history { OnOk result
+            (payloads_of self.new.history ≡ payloads_of self.old.history ++ payload.now ∷ []) }
         ensures refused { OnErr result (self.new.history ≡ self.old.history) }
         ensures faithful { IsFaithful self.new }
         ensures idle { IsIdle self.new }
@@ -101,11 +106,12 @@ impl State {
     fn record(&mut self, alloc: Global, command: &Command, moment: Moment) -> Result<(), EntryFault>
         requires idle { IsIdle self.old }
         requires faithful { IsFaithful self.old }
-        ensures history { OnOk result (self.new.history ≡ self.old.history ++ record { command = command.now; moment = moment } ∷ []) }
+        ensures history { OnOk result
+            (self.new.history ≡ self.old.history ++ entry_for command.now moment ∷ []) }
         ensures refused { OnErr result (self.new.history ≡ self.old.history) }
         ensures faithful { IsFaithful self.new }
         ensures idle { IsIdle self.new }
-        ensures reason { IfErr result (HasPlanReason (world_of self.old) (record { command = command.now; moment = moment })) }
+        ensures reason { IfErr result (HasPlanReason (world_of self.old) (entry_for command.now moment)) }
     {
         let change = self.plan_entry(alloc, command, moment)?;
         Ok(self.make(change)?)
@@ -119,9 +125,9 @@ impl State {
         moment: Moment,
     ) -> Result<Change, EntryFault>
         requires { IsIdle self.now }
-        ensures change { IfOk result (λ change. IsPlanned self.now (planned_queues self.now.queues.part change.queues) change.payload (record { command = command.now; moment = moment })
-            × (change.moment ≡ moment) × (entry_of change.payload ≡ record { command = command.now; moment = moment })) }
-        ensures reason { IfErr result (HasPlanReason (world_of self.now) (record { command = command.now; moment = moment })) }
+        ensures change { IfOk result (λ change. IsPlannedAs self.now change (entry_for command.now moment)
+            × (change.moment ≡ moment) × (entry_of change.payload ≡ entry_for command.now moment)) }
+        ensures reason { IfErr result (HasPlanReason (world_of self.now) (entry_for command.now moment)) }
     {
         if moment.ms() < self.last() {
             return Err(EntryFault::Refused);
@@ -137,7 +143,7 @@ impl State {
         ghost e: { Entry }
         requires idle { IsIdle self.old }
         requires faithful { IsFaithful self.old }
-        requires planned { IsPlanned self.old (planned_queues self.old.queues.part change.queues) change.payload e }
+        requires planned { IsPlannedAs self.old change e }
         requires moment { change.moment ≡ e.moment }
         ensures history { OnOk result (self.new.history ≡ self.old.history ++ e ∷ []) }
         ensures refused { OnErr result (self.new.history ≡ self.old.history) }

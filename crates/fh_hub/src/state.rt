@@ -3,15 +3,13 @@ ghost use Rattle.std.specs.Prelude.{◌≡◌, ◌+◌, ◌≤◌, ◌∷◌, �
 ghost use Rattle.fh_base.specs.Moments.{greatest_moment};
 ghost use Rattle.fh_event.specs.Entries.{entry, IsEntry, HasShortTexts};
 ghost use Rattle.fh_queues.specs.Asks.{ask_of};
-ghost use Rattle.fh_queues.specs.Edits.{planned as planned_queues};
-ghost use Rattle.fh_queues.specs.Outcome.{outcome};
 ghost use Rattle.fh_queues.specs.Places.{place_of};
-ghost use Rattle.fh_hub.specs.World.{Recorded, Asks, asked, empty, joined, step, step_at, reply_of, effective_moment};
-ghost use Rattle.fh_hub.specs.Replay.{Entry, IsLegal};
-ghost use Rattle.fh_hub.specs.State.{world_of, IsIdle, IsPlanned, IsUnchanged, IsFaithful};
-ghost use Rattle.fh_hub.specs.Plans.{entry_at, IsPlanFor, IsFaultOfStep, IsStaged};
+ghost use Rattle.fh_hub.specs.World.{Recorded, Asks, dispatch, empty, step, step_at, reply_of, effective_moment};
+ghost use Rattle.fh_hub.specs.Replay.{Entry, entry_for, IsLegal};
+ghost use Rattle.fh_hub.specs.State.{world_of, IsIdle, IsUnchanged, IsFaithful};
+ghost use Rattle.fh_hub.specs.Plans.{entry_at, step_of_ask, IsPlanFor, IsPlannedAs, IsFaultOfStep, IsStaged};
 
-use crate::asking::Asked;
+use crate::asking::Dispatch;
 use crate::history::History;
 use crate::plan::{Change, Plan, Staged};
 use fh_base::{Moment, NoMemory, Rule};
@@ -41,9 +39,21 @@ impl Model for State {
 
     ghost Value = { HubState };
 
-    ghost view = { λ s. record { queues = s.queues; last = s.last; gate = s.gate; history = s.history.entries; room = s.history.room } };
+    ghost view = { λ s. record {
+      queues = s.queues;
+      last = s.last;
+      gate = s.gate;
+      history = s.history.entries;
+      room = s.history.room;
+    } };
 
-    ghost invariant = { λ s. IsFaithful (record { queues = s.queues; last = s.last; gate = s.gate; history = s.history.entries; room = s.history.room }) };
+    ghost invariant = { λ s. IsFaithful (record {
+      queues = s.queues;
+      last = s.last;
+      gate = s.gate;
+      history = s.history.entries;
+      room = s.history.room;
+    }) };
 }
 
 impl State {
@@ -95,8 +105,10 @@ impl State {
     #[tactic(auto, unfolding(crate::specs::World::step))]
     pub fn plan(&self, alloc: Global, command: &Command, now: u64) -> Result<Plan, PlanFault>
         requires { IsIdle self.now }
-        ensures ok { IfOk result (IsPlanFor self.now (step (world_of self.now) command.now now) (entry_at self.now command.now now)) }
-        ensures err { IfErr result (λ fault. IsFaultOfStep fault (step (world_of self.now) command.now now)) }
+        ensures ok { IfOk result (IsPlanFor self.now
+            (step (world_of self.now) command.now now) (entry_at self.now command.now now)) }
+        ensures err { IfErr result
+            (λ fault. IsFaultOfStep fault (step (world_of self.now) command.now now)) }
     {
         let Some(now) = Moment::new(now) else {
             return Err(PlanFault::Rule(Rule::MomentTooLate));
@@ -109,13 +121,15 @@ impl State {
     fn plan_at(&self, alloc: Global, command: &Command, m: Moment) -> Result<Plan, PlanFault>
         requires idle { IsIdle self.now }
         requires own_moment { self.now.last ≤ m }
-        ensures ok { IfOk result (IsPlanFor self.now (step_at (world_of self.now) command.now m) (record { command = command.now; moment = m })) }
-        ensures err { IfErr result (λ fault. IsFaultOfStep fault (step_at (world_of self.now) command.now m)) }
+        ensures ok { IfOk result (IsPlanFor self.now
+            (step_at (world_of self.now) command.now m) (entry_for command.now m)) }
+        ensures err { IfErr result
+            (λ fault. IsFaultOfStep fault (step_at (world_of self.now) command.now m)) }
     {
-        match Asked::of(alloc, &self.queues, command, m)? {
-            Asked::Refuses(rule) => Err(PlanFault::Rule(rule)),
-            Asked::Reads(reply) => Ok(Plan::Reads(reply)),
-            Asked::Asks(ask) => self.plan_ask(alloc, command, &ask, m),
+        match Dispatch::of(alloc, &self.queues, command, m)? {
+            Dispatch::Refuses(rule) => Err(PlanFault::Rule(rule)),
+            Dispatch::Reads(reply) => Ok(Plan::Reads(reply)),
+            Dispatch::Asks(ask) => self.plan_ask(alloc, command, &ask, m),
         }
     }
 
@@ -128,9 +142,11 @@ impl State {
     ) -> Result<Plan, PlanFault>
         requires idle { IsIdle self.now }
         requires own_moment { self.now.last ≤ m }
-        requires asks { asked self.now.queues.part command.now m ≡ Asks (ask_of ask.now) }
-        ensures ok { IfOk result (IsPlanFor self.now (joined (world_of self.now) m (length (entry m command.now)) (outcome self.now.queues.part (ask_of ask.now) m)) (record { command = command.now; moment = m })) }
-        ensures err { IfErr result (λ fault. IsFaultOfStep fault (joined (world_of self.now) m (length (entry m command.now)) (outcome self.now.queues.part (ask_of ask.now) m))) }
+        requires asks { dispatch self.now.queues.part command.now m ≡ Asks (ask_of ask.now) }
+        ensures ok { IfOk result (IsPlanFor self.now
+            (step_of_ask self.now command.now (ask_of ask.now) m) (entry_for command.now m)) }
+        ensures err { IfErr result
+            (λ fault. IsFaultOfStep fault (step_of_ask self.now command.now (ask_of ask.now) m)) }
     {
         let queues = self.queues.plan(alloc, ask, m)?;
         if let Some(done) = queues.quiet() {
@@ -151,11 +167,12 @@ impl State {
     pub fn stage(&mut self, change: Change) -> Result<Staged, NoMemory>
         ghost e: { Entry }
         requires idle { IsIdle self.old }
-        requires planned { IsPlanned self.old (planned_queues self.old.queues.part change.queues) change.payload e }
+        requires planned { IsPlannedAs self.old change e }
         requires moment { change.moment ≡ e.moment }
         ensures same { IsUnchanged self.old self.new }
         ensures err { OnErr result (IsIdle self.new) }
-        ensures ok { IfOk result (λ staged. IsStaged self.new staged e × (staged.payload ≡ change.payload)) }
+        ensures ok { IfOk result
+            (λ staged. IsStaged self.new staged e × (staged.payload ≡ change.payload)) }
         ensures legal { OnOk result (IsLegal (self.old.history ++ e ∷ [])) }
         ensures gate { self.new.gate ≡ self.old.gate }
         ensures faithful { IsFaithful self.new }

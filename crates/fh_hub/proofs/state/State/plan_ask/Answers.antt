@@ -5,12 +5,12 @@ use Rattle.fh_queues.specs.Asks.{ask_of}
 use Rattle.fh_queues.specs.Edits.{planned}
 use Rattle.fh_queues.specs.Outcome.{Outcome, outcome, is_quiet}
 use Rattle.fh_queues.specs.Part.{QueuePart}
-use Rattle.fh_hub.specs.World.{World, Recorded, joined, world_with, reply_of, most_bytes}
+use Rattle.fh_hub.specs.World.{World, unless_refused, recorded, most_bytes}
 use Rattle.fh_hub.specs.State.{world_of}
 use Rattle.fh_hub.proofs.Spelling.{entry_is}
 use Rattle.fh_hub.proofs.Narrow.{narrow_texts}
 use Rattle.fh_hub.proofs.Sizes.{short_texts, entry_size, HasNarrowTexts}
-use Rattle.fh_hub.proofs.Recording.{joined_records, step_is_at, step_at_joins, has_room}
+use Rattle.fh_hub.proofs.Recording.{accepted_is_recorded, step_is_at, step_at_asks, has_room}
 use Rattle.fh_hub.proofs.state.State.plan_ask.Goals as goal
 
 pub payload_of-requires : goal.payload_of-requires
@@ -33,14 +33,14 @@ returns-clause-ok c =
     let spelled : IsEntry payload m command = search rules in
     let room : w.gate + 6 + length payload ≤ most_bytes = has_room w.gate (length payload) (grind (arith, common_steps)) in
     let narrow : HasNarrowTexts command = narrow_texts part command m (ask_of c.args.ask.now) made c.requires.asks done in
-    let joins : joined w m (length payload) (outcome part (ask_of c.args.ask.now) m) ≡ Recorded (world_with w made.0 m (length payload)) (reply_of made.1) = joined_records w m (length payload) _ made done loud room in
-    let sized : joined w m (length (entry m command)) (outcome part (ask_of c.args.ask.now) m) ≡ Recorded (world_with w made.0 m (length payload)) (reply_of made.1) = subst (λ (bytes : List ℕ). joined w m (length bytes) (outcome part (ask_of c.args.ask.now) m) ≡ Recorded (world_with w made.0 m (length payload)) (reply_of made.1)) entered joins in
+    let records : unless_refused w m (length payload) (outcome part (ask_of c.args.ask.now) m) ≡ recorded w m (length payload) made = accepted_is_recorded w m (length payload) _ made done loud room in
+    let sized : unless_refused w m (length (entry m command)) (outcome part (ask_of c.args.ask.now) m) ≡ recorded w m (length payload) made = subst (λ (bytes : List ℕ). unless_refused w m (length bytes) (outcome part (ask_of c.args.ask.now) m) ≡ recorded w m (length payload) made) entered records in
     record {
       steps = sized;
       moment = refl;
       entry = entry_is payload (record { command = command; moment = m }) spelled;
       planned = record {
-        steps = step_is_at w command m (search rules) c.requires.own_moment ∙ step_at_joins w command m _ c.requires.asks ∙ sized;
+        steps = step_is_at w command m (search rules) c.requires.own_moment ∙ step_at_asks w command m _ c.requires.asks ∙ sized;
         own_moment = c.requires.own_moment;
         outcome = record { ask = ask_of c.args.ask.now; moment = m; is = done };
         spelled = spelled;
