@@ -2,11 +2,11 @@
 //!
 //! Promised to the layer above: `script` is the whole command. Each line comes to what `answer_line` of
 //! specs/Machine.antt says: its answer, its entries or none, and the world and the moment behind it. The
-//! answers stand in the sink in the order of the lines, and the journal stands for the history that it had
-//! with the entries behind it. Where a run ends at a line, no byte behind that line was read. Status 0 comes
-//! only at the end of the source and where no call failed, and each other status only for its reason
-//! (`EndsBy` of specs/Script.antt). At statuses 0, 5, 7 and 8 a crash leaves what the file stands for. The
-//! checkpoint is left alone.
+//! answers stand in the sink in the order of the lines, and the journal stands for the history that it
+//! had with the entries behind it. Where the disk or the sink fails at a line, no byte behind it was
+//! read. Status 0 comes only at the end of the source and where no call failed, and each other status
+//! only for its reason (`EndsBy` of specs/Script.antt). At statuses 0, 5, 7 and 8 a crash leaves what the
+//! file stands for. The checkpoint is left alone.
 //!
 //! `read_command` reads one line into what it stands for, or its first fault, exactly as `line_of` of
 //! specs/Grammar.antt says. A text that an answer prints is one word of a line and is read as the same text
