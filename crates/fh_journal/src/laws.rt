@@ -4,8 +4,9 @@ ghost use Rattle.fh_journal.specs.Journal.{Stands, IsJournalOf};
 ghost use Rattle.fh_journal.specs.Mounting.{BreaksAt, IsForeign};
 ghost use Rattle.fh_journal.specs.declared.faults.FrameRule.{FrameRule};
 
-/// A law: a file has one reading. It stands for one list of payloads with one next gate, or its header
-/// is missing, or one frame is the first that breaks a rule, and it breaks one.
+/// A law: a file has one reading at most. None stands for two lists of payloads or has two next gates, and
+/// none is broken first at two places or by two rules. None with more than 7 bytes both stands for payloads
+/// and is broken, and one without the header is neither.
 pub fn files_have_one_reading()
     ensures stands { (file : List ℕ) (payloads others : List (List ℕ)) (gate place : ℕ)
         → Stands file payloads gate → Stands file others place → (payloads ≡ others) × (gate ≡ place) }
