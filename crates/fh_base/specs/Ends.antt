@@ -1,5 +1,5 @@
 -- How commands end: the statuses that several of them share, and the last line that tells one.
-use Rattle.std.specs.Prelude.{ℕ, ◌<◌, List, [], length, take, codes, Option}
+use Rattle.std.specs.Prelude.{◌≡◌, ℕ, ◌<◌, ◌≤◌, List, [], length, take, codes, Option}
 use Rattle.std.specs.Io.KnownBytes.{Appends}
 use Rattle.fh_base.specs.Faults.{Rose}
 use Rattle.fh_base.specs.declared.ends.PlainEnd.{PlainEnd}
@@ -27,8 +27,9 @@ plain_line NoMemory = codes "no memory\n"
 plain_line SpawnFault = codes "spawn fault\n"
 plain_line DoorFault = codes "door fault\n"
 
--- bytes at the front of the line were written, and all of them but where the sink failed and counted it
+-- bytes at the front of the line were written, and all of them exactly where the sink didn't fail and count it
 pub record Concludes (was now : Option (List ℕ)) (line : List ℕ) (before after : ℕ) : Type 0 where
   pub written : ℕ
   pub part : Appends was now (take written line)
   pub whole : written < length line → Rose before after
+  pub passed : length line ≤ written → after ≡ before

@@ -1,5 +1,5 @@
 -- What a disk in memory holds.
-use Rattle.std.specs.Prelude.{ℕ, ◌+◌, ◌-◌, ◌^◌, min, Bool, true, false, if◌then◌else◌, List, [], Option, Some, None}
+use Rattle.std.specs.Prelude.{ℕ, ◌+◌, ◌-◌, ◌^◌, min, Bool, true, false, List, [], Option, Some, None}
 use Rattle.fh_base.specs.FaultPlan.{raised}
 use Rattle.fh_base.specs.declared.fault_plan.Failing.TheVariants.{After}
 use Rattle.fh_base.specs.declared.fault_plan.FaultPlan.{FaultPlan}
@@ -39,10 +39,3 @@ stopped passed plan = record plan { failing = After (min (plan.calls + passed) (
 abbrev pub reads_after : Bool → ℕ → ℕ
 reads_after true reads = raised reads
 reads_after false reads = reads
-
--- the plan after a call that failed or not
-abbrev pub called : Bool → FaultPlan → FaultPlan
-called failed plan = record plan {
-  calls = raised plan.calls;
-  faults = if failed then raised plan.faults else plan.faults;
-}

@@ -5,15 +5,29 @@ ghost use Rattle.fh_base.specs.FaultPlan.{raised};
 
 use crate::Disk;
 use fh_base::Failed;
-use std::fs::{Files, OpenFile, OpenOptions};
+use std::fs::{File, Files, OpenFile, OpenOptions};
 use std::io::{self, ErrorKind};
 use std::os::unix::fs::FileExt;
 
 /// How often a read is tried again where a signal came between.
 const TRIES: u32 = 1000;
 
-/// A file of the host, by its path. It is opened at the first call, and made where it is missing. It
-/// tells nothing, and counts each error of the host.
+/// A file on which one open at a time may hold a lock.
+pub trait Locking {
+    /// Takes the lock, or answers an error at once where another open of the file holds it. It lasts until
+    /// the file is closed. The lock is advisory, as flock(2): it binds those who ask for it.
+    fn lock_now(&self) -> io::Result<()>;
+}
+
+impl Locking for File {
+    fn lock_now(&self) -> io::Result<()> {
+        Ok(self.try_lock()?)
+    }
+}
+
+/// A file of the host, by its path. It is opened at the first call, made where it is missing, and locked
+/// while it is open, so that a second one on the same file fails. It tells nothing, and counts each error
+/// of the host.
 ///
 /// A write goes on until all its bytes are taken. A sync brings the bytes and the length onto the disk,
 /// and not the folder's entry of a file that was just made.
@@ -51,7 +65,7 @@ impl<R: Files> FileDisk<R> {
 
 impl<R: Files> Disk for FileDisk<R>
 where
-    R::File: FileExt,
+    R::File: FileExt + Locking,
 {
     ghost told = { λ d. None };
 
@@ -114,16 +128,21 @@ where
     }
 }
 
-// The file, opened where it isn't yet, and made where it is missing.
+// The file, opened and locked where it isn't yet, and made where it is missing.
 fn opened<'a, R: Files>(
     file: &'a mut Option<R::File>,
     runtime: &R,
     path: &str,
-) -> io::Result<&'a R::File> {
+) -> io::Result<&'a R::File>
+where
+    R::File: Locking,
+{
     if file.is_none() {
         let mut options = OpenOptions::new();
         options.read(true).write(true).create(true);
-        *file = Some(options.open(runtime, path)?);
+        let made = options.open(runtime, path)?;
+        made.lock_now()?;
+        *file = Some(made);
     }
     match file {
         Some(file) => Ok(file),

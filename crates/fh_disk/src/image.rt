@@ -45,8 +45,8 @@ fn go_on(
 {
     match call {
         Call::Write { at, bytes } => {
-            put(file, *at, bytes.as_bytes())?;
-            tear(image, *at, bytes.as_bytes(), draw)
+            put(file, *at, bytes.as_slice())?;
+            tear(image, *at, bytes.as_slice(), draw)
         }
         Call::Sync => {
             *image = Vec::from_slice(alloc, file)?;

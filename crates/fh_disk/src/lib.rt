@@ -9,7 +9,7 @@
 //! sync have named and past the old end, at any length up to the greatest since, and the synced bytes
 //! elsewhere. It fails at the calls of its plan, and where memory is refused. A plain one tells
 //! nothing, and its calls that don't make the file longer take no memory. A `FileDisk` is a file of the
-//! host; that it keeps to the model is trusted.
+//! host, locked while it is open; that it keeps to the model is trusted. Read specs/Disk.antt first.
 #![tactic(auto)]
 
 mod content;
@@ -21,9 +21,9 @@ mod memory_disk;
 mod record;
 
 pub use disk::Disk;
-pub use file_disk::FileDisk;
+pub use file_disk::{FileDisk, Locking};
 pub use memory_disk::MemoryDisk;
-pub use record::{Call, Piece};
+pub use record::Call;
 
 #[cfg(test)]
 mod tests;

@@ -1,9 +1,9 @@
 // A disk in memory, which tears at will.
-ghost use Rattle.std.specs.Prelude.{◌≡◌, ◌+◌, ◌≤◌, ℕ, List, None, Some, length, true, is_err, is_ok, IsOk, IfOk, IfSome, OnOk, OnErr};
+ghost use Rattle.std.specs.Prelude.{◌≡◌, ◌+◌, ◌≤◌, [], ℕ, List, None, Some, length, true, is_err, is_ok, IsOk, IfOk, IfSome, OnOk, OnErr};
 ghost use Rattle.std.specs.Io.{ReadsAtMost};
 ghost use Rattle.std.specs.Option.{option_map};
 ghost use Rattle.fh_base.specs.Faults.{HasCause};
-ghost use Rattle.fh_base.specs.FaultPlan.{fails_next, counted, raised};
+ghost use Rattle.fh_base.specs.FaultPlan.{called, counted, fails_next, raised};
 ghost use Rattle.fh_disk.specs.Disk.{written_at, ReadsAt, Torn, TornTold, Follows, NoNewImage, OnlyTold, Only};
 ghost use Rattle.fh_disk.specs.Images.{IsImage, synced_bytes, unsynced_writes};
 ghost use Rattle.fh_disk.specs.Recorded.{added, told_by, left_by, moment_of, left_since_by};
@@ -16,7 +16,7 @@ use crate::content::{lengthen, overwrite, read_from};
 use crate::image::image_of;
 use crate::record::{Call, Record};
 use fh_base::{Failed, Failing, FaultPlan, NoMemory};
-use std::alloc::{AllocError, Global};
+use std::alloc::Global;
 
 /// A file in memory. Its calls fail exactly where its plan says, counted from 1 among all calls on it,
 /// and where a write or a sync is refused memory; both count a fault. A call that fails leaves the bytes
@@ -43,6 +43,7 @@ impl MemoryDisk {
         ensures bytes { IfOk result (λ disk. bytes_of disk ≡ bytes.items) }
         ensures told { IfOk result (λ disk. told_of disk ≡ Some bytes.items) }
         ensures synced { IfOk result (λ disk. Only bytes.items (images_of disk)) }
+        ensures past { IfOk result (λ disk. past_of disk ≡ Some (record { first = bytes.items; calls = [] })) }
         ensures plan { IfOk result (λ disk. disk.plan ≡ plan) }
         ensures reads { IfOk result (λ disk. disk.reads ≡ 0) }
     {
@@ -135,7 +136,7 @@ impl MemoryDisk {
 }
 
 impl Disk for MemoryDisk {
-    ghost use Rattle.fh_disk.specs.MemoryDisks.{bytes_of, past_of, told_of, images_of, TimeGoesOn, called, reads_after};
+    ghost use Rattle.fh_disk.specs.MemoryDisks.{bytes_of, past_of, told_of, images_of, TimeGoesOn, reads_after};
 
     ghost told = { λ d. told_by d.past };
 
@@ -230,7 +231,7 @@ fn store(
     past: &mut Option<Record>,
     at: u64,
     bytes: &[u8],
-) -> Result<(), AllocError>
+) -> Result<(), NoMemory>
     ensures written { OnOk result (file.new.items ≡ written_at at bytes.now file.old.items) }
     ensures noted { OnOk result (past.new ≡ option_map (added (Write at bytes.now)) past.old) }
     ensures same_file { OnErr result (file.new.items ≡ file.old.items) }
@@ -239,19 +240,19 @@ fn store(
 {
     let start = at as usize;
     let Some(end) = start.checked_add(bytes.len()) else {
-        return Err(AllocError);
+        return Err(NoMemory);
     };
     let length = file.len();
     lengthen(file, end)?;
     if note_write(past, at, bytes).is_err() {
         file.truncate(length);
-        return Err(AllocError);
+        return Err(NoMemory);
     }
     overwrite(file, start, bytes);
     Ok(())
 }
 
-fn note_write(past: &mut Option<Record>, at: u64, bytes: &[u8]) -> Result<(), AllocError>
+fn note_write(past: &mut Option<Record>, at: u64, bytes: &[u8]) -> Result<(), NoMemory>
     ensures ok { OnOk result (past.new ≡ option_map (added (Write at bytes.now)) past.old) }
     ensures err { OnErr result (past.new ≡ past.old) }
     ensures surely { past.old ≡ None → IsOk result }
@@ -262,7 +263,7 @@ fn note_write(past: &mut Option<Record>, at: u64, bytes: &[u8]) -> Result<(), Al
     }
 }
 
-fn note_sync(past: &mut Option<Record>) -> Result<(), AllocError>
+fn note_sync(past: &mut Option<Record>) -> Result<(), NoMemory>
     ensures ok { OnOk result (past.new ≡ option_map (added Sync) past.old) }
     ensures err { OnErr result (past.new ≡ past.old) }
     ensures surely { past.old ≡ None → IsOk result }

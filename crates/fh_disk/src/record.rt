@@ -3,43 +3,14 @@ ghost use Rattle.std.specs.Prelude.{◌≡◌, [], ◌∷◌, ◌++◌, IfOk, On
 ghost use Rattle.fh_disk.specs.declared.record.Call.TheVariants.{Write, Sync};
 ghost use Rattle.fh_disk.specs.Recorded.{added};
 
-use std::alloc::{AllocError, Global};
+use fh_base::{Bytes, NoMemory};
+use std::alloc::Global;
 use std::marker::Model;
-
-/// The bytes of one write. Contracts see their list.
-#[derive(Drop)]
-pub struct Piece {
-    bytes: Vec<u8>,
-}
-
-impl Model for Piece {
-    ghost use Rattle.std.specs.Prelude.{List, ℕ};
-
-    ghost Value = { List ℕ };
-
-    ghost view = { λ a. a.bytes.items };
-}
-
-impl Piece {
-    pub fn as_bytes(&self) -> &[u8]
-        ensures { result.now ≡ self.now }
-    {
-        &self.bytes
-    }
-
-    fn of(alloc: Global, bytes: &[u8]) -> Result<Piece, AllocError>
-        ensures { IfOk result (λ piece. piece ≡ bytes.now) }
-    {
-        Ok(Piece {
-            bytes: Vec::from_slice(alloc, bytes)?,
-        })
-    }
-}
 
 /// A call that passed and that images depend on.
 #[derive(Drop)]
 pub enum Call {
-    Write { at: u64, bytes: Piece },
+    Write { at: u64, bytes: Bytes },
     Sync,
 }
 
@@ -60,7 +31,7 @@ impl Model for Record {
 }
 
 impl Record {
-    pub(crate) fn begin(alloc: Global, bytes: &[u8]) -> Result<Record, AllocError>
+    pub(crate) fn begin(alloc: Global, bytes: &[u8]) -> Result<Record, NoMemory>
         ensures { IfOk result (λ new. new ≡ record { first = bytes.now; calls = [] }) }
     {
         Ok(Record {
@@ -82,15 +53,15 @@ impl Record {
         &self.calls
     }
 
-    pub(crate) fn add_write(&mut self, at: u64, bytes: &[u8]) -> Result<(), AllocError>
+    pub(crate) fn add_write(&mut self, at: u64, bytes: &[u8]) -> Result<(), NoMemory>
         ensures ok { OnOk result (self.new ≡ added (Write at bytes.now) self.old) }
         ensures err { OnErr result (self.new ≡ self.old) }
     {
-        let piece = Piece::of(self.alloc, bytes)?;
-        Ok(self.calls.push(Call::Write { at, bytes: piece })?)
+        let bytes = Bytes::from_slice(self.alloc, bytes)?;
+        Ok(self.calls.push(Call::Write { at, bytes })?)
     }
 
-    pub(crate) fn add_sync(&mut self) -> Result<(), AllocError>
+    pub(crate) fn add_sync(&mut self) -> Result<(), NoMemory>
         ensures ok { OnOk result (self.new ≡ added Sync self.old) }
         ensures err { OnErr result (self.new ≡ self.old) }
     {

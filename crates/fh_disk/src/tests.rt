@@ -47,7 +47,7 @@ fn disks_in_memory_write_and_read(rt: HostRuntime) -> Result<(), Fail> {
 }
 
 #[test]
-fn a_file_is_made_and_opened_again(rt: HostRuntime) -> Result<(), Fail> {
+fn a_file_is_made_locked_and_opened_again(rt: HostRuntime) -> Result<(), Fail> {
     let alloc = rt.alloc();
     let now = SystemTime::now(&rt)?.duration_since(SystemTime::UNIX_EPOCH)?;
     let folder = env::temp_dir(&rt)?;
@@ -56,6 +56,8 @@ fn a_file_is_made_and_opened_again(rt: HostRuntime) -> Result<(), Fail> {
     writes_and_reads(&rt, &mut made)?;
     let mut opened = FileDisk::new(rt, path.clone()?);
     let mut bytes = [0; 5];
+    assert_eq!(rt; opened.read_at(0, &mut bytes), Err(Failed));
+    drop(made);
     assert_eq!(rt; opened.read_at(0, &mut bytes)?, 5);
     assert_eq!(rt; bytes.as_slice(), [5, 0, 7, 8, 9].as_slice());
     fs::remove_file(&rt, path.as_str())?;
@@ -90,6 +92,22 @@ fn a_crash_tears_what_is_not_synced(rt: HostRuntime) -> Result<(), Fail> {
             "image {choice}"
         );
     }
+    Ok(())
+}
+
+#[test]
+fn a_torn_write_leaves_bytes_that_were_neither_old_nor_written(
+    rt: HostRuntime,
+) -> Result<(), Fail> {
+    let alloc = rt.alloc();
+    let mut disk = MemoryDisk::recording(alloc, [1; 64].to_vec(alloc)?, no_faults(&rt))?;
+    disk.write_at(0, &[8; 64])?;
+    let mut is_torn = false;
+    for choice in 2..16 {
+        let image = disk.image(alloc, choice)?;
+        is_torn = is_torn || image.iter().skip(1).any(|byte| *byte != 1 && *byte != 8);
+    }
+    assert!(rt; is_torn);
     Ok(())
 }
 

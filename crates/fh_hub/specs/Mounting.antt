@@ -1,5 +1,6 @@
 -- How mounting ends, and which entries are refused.
-use Rattle.std.specs.Prelude.{◌≡◌, ⊤, ℕ, List, ◌∷◌, ◌++◌, length, Option, Some, None, Ok, Err}
+use Rattle.std.specs.Prelude.{◌≡◌, ⊤, ℕ, List, ◌∷◌, ◌++◌, length, Option, Some, None, Result, Ok, Err}
+use Rattle.fh_base.specs.Faults.{Rose}
 use Rattle.fh_event.specs.declared.faults.PlanFault.{PlanFault}
 use Rattle.fh_event.specs.declared.faults.PlanFault.TheVariants as plans
 use Rattle.fh_event.specs.Reading.{entry_read}
@@ -110,3 +111,19 @@ abbrev pub MountsHistory : Option (List ℕ) → Option (List ℕ) → Option Hu
 MountsHistory None now fault = now ≡ None
 MountsHistory (Some was) None fault = ⊥
 MountsHistory (Some was) (Some now) fault = MountsBytes was now fault
+
+-- the count of the disk's faults rose at a disk fault, and stays at any other end of a mount
+abbrev pub CountsFaults : {T : Type 0} → ℕ → ℕ → Result T HubFault → Type 0
+CountsFaults before now (Ok made) = now ≡ before
+CountsFaults before now (Err BadHeader) = now ≡ before
+CountsFaults before now (Err (BadFrame at rule)) = now ≡ before
+CountsFaults before now (Err DiskFault) = Rose before now
+CountsFaults before now (Err NoMemory) = now ≡ before
+
+-- at any end of a mount but a disk fault
+abbrev pub UnlessDiskFault : {T : Type 0} → Type 0 → Result T HubFault → Type 0
+UnlessDiskFault P (Ok made) = P
+UnlessDiskFault P (Err BadHeader) = P
+UnlessDiskFault P (Err (BadFrame at rule)) = P
+UnlessDiskFault P (Err DiskFault) = ⊤
+UnlessDiskFault P (Err NoMemory) = P

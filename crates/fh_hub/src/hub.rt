@@ -23,7 +23,7 @@ pub struct Hub<'d, J: Disk> {
 }
 
 impl<'d, J: Disk> Hub<'d, J> {
-    ghost use Rattle.std.specs.Prelude.{◌≡◌, ◌⊎◌, ◌≤◌, ◌∷◌, ◌++◌, [], true, false, List, None, Some, IfOk, IfErr, OnOk, OnErr, IfSome, IsErrOf, MatchResult};
+    ghost use Rattle.std.specs.Prelude.{◌≡◌, ◌⊎◌, ⊤, ◌≤◌, ◌∷◌, ◌++◌, [], true, false, List, None, Some, IfOk, IfErr, OnOk, OnErr, IfSome, IsErrOf, MatchResult};
     ghost use Rattle.fh_base.specs.Faults.{Rose};
     ghost use Rattle.fh_base.specs.Moments.{greatest_moment};
     ghost use Rattle.fh_disk.specs.Disk.{OnlyTold};
@@ -36,7 +36,7 @@ impl<'d, J: Disk> Hub<'d, J> {
     ghost use Rattle.fh_hub.specs.State.{world_of, IsFaithful, IsIdle, IsUnchanged};
     ghost use Rattle.fh_hub.specs.Plans.{entry_at, IsPlannedAs};
     ghost use Rattle.fh_hub.specs.Hub.{Answers, HasStepCause, IsDurable, KeepsIn, LeavesSince, MayStandFor, StandsForHistory, faults_of, is_recorded};
-    ghost use Rattle.fh_hub.specs.Mounting.{MountsHistory};
+    ghost use Rattle.fh_hub.specs.Mounting.{CountsFaults, MountsHistory, UnlessDiskFault};
 
     /// The hub over a disk whose journal was prepared. Takes no memory.
     pub fn over(alloc: Global, disk: &'d mut J, state: State) -> Hub<'d, J>
@@ -60,8 +60,10 @@ impl<'d, J: Disk> Hub<'d, J> {
             (payloads_of hub.state.history) [] hub.journal.gate) }
         ensures faithful { IfOk result (λ hub. IsFaithful hub.state) }
         ensures whole { IfOk result (λ hub. hub.journal.torn ≡ false) }
-        ensures durable { IfOk result
-            (λ hub. OnlyTold (J.told hub.journal.disk.now) (J.may_leave hub.journal.disk.now)) }
+        ensures durable { MatchResult result
+            (λ hub. OnlyTold (J.told hub.journal.disk.now) (J.may_leave hub.journal.disk.now))
+            (λ refused. UnlessDiskFault {T = ⊤}
+            (OnlyTold (J.told refused.1.now) (J.may_leave refused.1.now)) (Err refused.0)) }
         ensures stood { IfOk result
             (λ hub. IfSome (J.told disk.entry.now) (StandsForHistory hub.state.history)) }
         ensures mounted { IfOk result
@@ -70,8 +72,8 @@ impl<'d, J: Disk> Hub<'d, J> {
             (λ refused. MountsHistory (J.told disk.entry.now) (J.told refused.1.now) (Some refused.0)) }
         ensures passed { IfOk result
             (λ hub. J.disk_faults hub.journal.disk.now ≡ J.disk_faults disk.entry.now) }
-        ensures fault { IfErr result (λ refused. refused.0 ≡ HubFault.DiskFault
-            → Rose (J.disk_faults disk.entry.now) (J.disk_faults refused.1.now)) }
+        ensures counted { IfErr result (λ refused. CountsFaults {T = ⊤}
+            (J.disk_faults disk.entry.now) (J.disk_faults refused.1.now) (Err refused.0)) }
         ensures any_moment { MatchResult result
             (λ hub. IfSome (J.told disk.entry.now)
             (λ file. LeavesOnly J.moment J.left_since disk.entry.now hub.journal.disk.now

@@ -1,6 +1,5 @@
 // How a journal is mounted: its frames are read, and their entries are replayed.
-ghost use Rattle.std.specs.Prelude.{◌≡◌, ◌⊎◌, ◌≤◌, ◌∷◌, ◌++◌, [], false, List, ℕ, None, Some, IfOk, IfErr, OnOk, OnErr, IfSome, IsErrOf};
-ghost use Rattle.fh_base.specs.Faults.{Rose};
+ghost use Rattle.std.specs.Prelude.{◌≡◌, ◌⊎◌, ◌≤◌, ◌∷◌, ◌++◌, [], false, List, ℕ, None, Some, IfOk, IfErr, OnOk, OnErr, IfSome};
 ghost use Rattle.fh_disk.specs.Disk.{OnlyTold};
 ghost use Rattle.fh_disk.specs.Moments.{LeavesOnly};
 ghost use Rattle.fh_journal.specs.Frames.{payloads_of as payloads_in, frames_from};
@@ -12,7 +11,7 @@ ghost use Rattle.fh_hub.specs.History.{entry_of};
 ghost use Rattle.fh_hub.specs.State.{IsIdle, IsFaithful, world_of};
 ghost use Rattle.fh_hub.specs.Plans.{IsPlannedAs};
 ghost use Rattle.fh_hub.specs.Hub.{StandsForHistory};
-ghost use Rattle.fh_hub.specs.Mounting.{HasEntryReason, HasPlanReason, HasReadReason, HasReplayReason, MountsHistory};
+ghost use Rattle.fh_hub.specs.Mounting.{CountsFaults, HasEntryReason, HasPlanReason, HasReadReason, HasReplayReason, MountsHistory, UnlessDiskFault};
 
 use crate::faults::{EntryFault, HubFault};
 use crate::plan::{Change, Plan};
@@ -32,14 +31,12 @@ pub fn prepare<J: Disk>(alloc: Global, disk: &mut J) -> Result<State, HubFault>
         (payloads_of state.history) [] state.gate) }
     ensures faithful { IfOk result IsFaithful }
     ensures idle { IfOk result IsIdle }
-    ensures durable { OnOk result (OnlyTold (J.told disk.new) (J.may_leave disk.new)) }
+    ensures durable { UnlessDiskFault (OnlyTold (J.told disk.new) (J.may_leave disk.new)) result }
     ensures stood { IfOk result (λ state. IfSome (J.told disk.old) (StandsForHistory state.history)) }
     ensures mounted { OnOk result (MountsHistory (J.told disk.old) (J.told disk.new) None) }
     ensures refused { IfErr result
         (λ fault. MountsHistory (J.told disk.old) (J.told disk.new) (Some fault)) }
-    ensures passed { OnOk result (J.disk_faults disk.new ≡ J.disk_faults disk.old) }
-    ensures fault { IsErrOf result HubFault.DiskFault
-        → Rose (J.disk_faults disk.old) (J.disk_faults disk.new) }
+    ensures counted { CountsFaults (J.disk_faults disk.old) (J.disk_faults disk.new) result }
     ensures any_moment { IfSome (J.told disk.old) (λ file. LeavesOnly J.moment J.left_since disk.old disk.new
         (λ c. J.may_leave disk.old c ⊎ IsBeingMade file c)) }
     ensures same_history { (history : List Entry) → IfSome (J.told disk.old)

@@ -1,7 +1,8 @@
 -- How mounting a journal ends, and which frames can't be read.
-use Rattle.std.specs.Prelude.{◌≡◌, ◌≢◌, ◌⊎◌, ◌≤◌, ◌<◌, ℕ, ◌+◌, nat_le, if◌then◌else◌, List, [], ◌∷◌, ◌++◌, length, take, Option, Some, None, Result, Ok, Err}
+use Rattle.std.specs.Prelude.{◌≡◌, ◌≢◌, ◌⊎◌, ⊤, ◌≤◌, ◌<◌, ℕ, ◌+◌, nat_le, if◌then◌else◌, List, [], ◌∷◌, ◌++◌, length, take, Option, Some, None, Result, Ok, Err}
 use Rattle.std.specs.List.{All}
 use Rattle.std.specs.Int.{w32, from_be_bytes}
+use Rattle.fh_base.specs.Faults.{Rose}
 use Rattle.fh_journal.specs.Journal.{header, opened, IsShort}
 use Rattle.fh_journal.specs.declared.faults.FrameRule.{FrameRule}
 use Rattle.fh_journal.specs.declared.faults.FrameRule.TheVariants.{Cut, Length}
@@ -61,3 +62,19 @@ MountsTold (Some was) (Some now) result = Mounts was now result
 -- a file of at most 7 bytes may be left with any such bytes by a crash, except one that is fresh already
 abbrev pub IsBeingMade : List ℕ → List ℕ → Type 0
 IsBeingMade was file = (length was ≤ 7) × (was ≢ fresh_file) × (length file ≤ 7)
+
+-- the count of the disk's faults rose at a disk fault, and stays at any other end of a mount
+abbrev pub CountsFaults : {T : Type 0} → ℕ → ℕ → Result T MountFault → Type 0
+CountsFaults before now (Ok made) = now ≡ before
+CountsFaults before now (Err BadHeader) = now ≡ before
+CountsFaults before now (Err (BadFrame at rule)) = now ≡ before
+CountsFaults before now (Err DiskFault) = Rose before now
+CountsFaults before now (Err NoMemory) = now ≡ before
+
+-- at any end of a mount but a disk fault
+abbrev pub UnlessDiskFault : {T : Type 0} → Type 0 → Result T MountFault → Type 0
+UnlessDiskFault P (Ok made) = P
+UnlessDiskFault P (Err BadHeader) = P
+UnlessDiskFault P (Err (BadFrame at rule)) = P
+UnlessDiskFault P (Err DiskFault) = ⊤
+UnlessDiskFault P (Err NoMemory) = P

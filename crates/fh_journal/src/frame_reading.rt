@@ -1,9 +1,9 @@
 // How the frames of a journal are read, each by reads of its own.
-ghost use Rattle.std.specs.Prelude.{◌≡◌, ◌≤◌, ◌<◌, ◌+◌, ◌^◌, true, length, take, IfOk, IfSome, IsErrOf, OnOk};
-ghost use Rattle.fh_base.specs.Faults.{Rose};
+ghost use Rattle.std.specs.Prelude.{◌≡◌, ◌≤◌, ◌<◌, ◌+◌, ◌^◌, true, length, take, IfOk, IfSome};
 ghost use Rattle.fh_journal.specs.Frames.{payloads_of, frames_from};
 ghost use Rattle.fh_journal.specs.Journal.{header};
 ghost use Rattle.fh_journal.specs.Keeping.{OnlyReads};
+ghost use Rattle.fh_journal.specs.Mounting.{CountsFaults};
 ghost use Rattle.fh_journal.specs.Reading.{ReadsSize, ReadsFrame, ReadsFrames};
 
 use crate::frames::{Frame, Frames, Payload};
@@ -23,10 +23,9 @@ pub(crate) fn read_frames<J: Disk>(
     requires long { 7 ≤ end }
     ensures read { IfSome (J.told disk.old) (λ file. length file ≡ end → take 6 file ≡ header → ReadsFrames file result) }
     ensures places { IfOk result (λ found. found.frames ≡ frames_from 6 (payloads_of found.frames)) }
-    ensures fault { IsErrOf result MountFault.DiskFault → Rose (J.disk_faults disk.old) (J.disk_faults disk.new) }
+    ensures counted { CountsFaults (J.disk_faults disk.old) (J.disk_faults disk.new) result }
     ensures quiet { OnlyReads J.told J.may_leave J.moment J.left_since disk.old disk.new }
     ensures count { J.disk_faults disk.old ≤ J.disk_faults disk.new }
-    ensures passed { OnOk result (J.disk_faults disk.new ≡ J.disk_faults disk.old) }
 {
     let mut frames = Vec::new(alloc);
     let mut at = 6;
@@ -51,10 +50,9 @@ fn read_frame<J: Disk>(
     requires inside { at < end }
     ensures read { IfSome (J.told disk.old) (λ file. length file ≡ end → ReadsFrame file at result) }
     ensures within { IfOk result (λ found. IfSome found (λ payload. at + 5 + length payload < end)) }
-    ensures fault { IsErrOf result MountFault.DiskFault → Rose (J.disk_faults disk.old) (J.disk_faults disk.new) }
+    ensures counted { CountsFaults (J.disk_faults disk.old) (J.disk_faults disk.new) result }
     ensures quiet { OnlyReads J.told J.may_leave J.moment J.left_since disk.old disk.new }
     ensures count { J.disk_faults disk.old ≤ J.disk_faults disk.new }
-    ensures passed { OnOk result (J.disk_faults disk.new ≡ J.disk_faults disk.old) }
 {
     let Some(size) = read_size(disk, at, end)? else {
         return Ok(None);
@@ -75,10 +73,9 @@ fn read_size<J: Disk>(disk: &mut J, at: u64, end: u64) -> Result<Option<usize>, 
     requires inside { at < end }
     ensures read { IfSome (J.told disk.old) (λ file. length file ≡ end → ReadsSize file at result) }
     ensures within { IfOk result (λ found. IfSome found (λ size. (at + 5 ≤ end) × (size ≤ 16777216))) }
-    ensures fault { IsErrOf result MountFault.DiskFault → Rose (J.disk_faults disk.old) (J.disk_faults disk.new) }
+    ensures counted { CountsFaults (J.disk_faults disk.old) (J.disk_faults disk.new) result }
     ensures quiet { OnlyReads J.told J.may_leave J.moment J.left_since disk.old disk.new }
     ensures count { J.disk_faults disk.old ≤ J.disk_faults disk.new }
-    ensures passed { OnOk result (J.disk_faults disk.new ≡ J.disk_faults disk.old) }
 {
     let mut bytes = [0; 5];
     let there = (end - at).min(5) as usize;

@@ -1,5 +1,5 @@
 // A journal over a disk that is lent: how payloads are added, and how a torn one is mended.
-ghost use Rattle.std.specs.Prelude.{◌≡◌, ◌⊎◌, ◌+◌, ◌≤◌, ◌<◌, [], ◌∷◌, ◌++◌, ℕ, List, Some, None, true, false, length, nat_lt, if◌then◌else◌, vec_capacity, IfOk, IfErr, MatchResult, OnOk, OnErr, IfSome};
+ghost use Rattle.std.specs.Prelude.{◌≡◌, ◌⊎◌, ⊤, ◌+◌, ◌≤◌, ◌<◌, [], ◌∷◌, ◌++◌, ℕ, List, Some, None, true, false, length, nat_lt, if◌then◌else◌, vec_capacity, IfOk, IfErr, MatchResult, OnOk, OnErr, IfSome};
 ghost use Rattle.std.specs.Option.{option_map};
 ghost use Rattle.std.specs.Int.{w32, to_be_bytes};
 ghost use Rattle.fh_base.specs.Faults.{Rose};
@@ -7,7 +7,7 @@ ghost use Rattle.fh_disk.specs.Disk.{OnlyTold};
 ghost use Rattle.fh_disk.specs.Moments.{LeavesOnly};
 ghost use Rattle.fh_journal.specs.Frames.{payloads_of, frames_from};
 ghost use Rattle.fh_journal.specs.Journal.{IsJournalOf, MayReadAs};
-ghost use Rattle.fh_journal.specs.Mounting.{IsBeingMade, MountsTold, mounted_file};
+ghost use Rattle.fh_journal.specs.Mounting.{CountsFaults, IsBeingMade, MountsTold, UnlessDiskFault, mounted_file};
 ghost use Rattle.fh_journal.specs.Keeping.{Keeps, IsBeforeOrAfter, StaysTold};
 
 use crate::writing::write_durably;
@@ -66,13 +66,14 @@ impl<'d, J: Disk> Journal<'d, J> {
     ) -> Result<(Journal<'d, J>, Frames), (MountFault, &'d mut J)>
         ensures stands { IfOk result (λ found.
             Keeps (J.told found.0.disk.now) (J.may_leave found.0.disk.now) false (payloads_of found.1) [] found.0.gate) }
-        ensures durable { IfOk result (λ found. OnlyTold (J.told found.0.disk.now) (J.may_leave found.0.disk.now)) }
+        ensures durable { MatchResult result
+            (λ found. OnlyTold (J.told found.0.disk.now) (J.may_leave found.0.disk.now))
+            (λ refused. UnlessDiskFault {T = ⊤} (OnlyTold (J.told refused.1.now) (J.may_leave refused.1.now)) (Err refused.0)) }
         ensures whole { IfOk result (λ found. found.0.torn ≡ false) }
         ensures places { IfOk result (λ found. found.1 ≡ frames_from 6 (payloads_of found.1)) }
         ensures file { IfOk result (λ found. J.told found.0.disk.now ≡ option_map mounted_file (J.told disk.entry.now)) }
         ensures refused { IfErr result (λ refused. MountsTold (J.told disk.entry.now) (J.told refused.1.now) (Err refused.0)) }
-        ensures fault { IfErr result (λ refused. refused.0 ≡ MountFault.DiskFault
-            → Rose (J.disk_faults disk.entry.now) (J.disk_faults refused.1.now)) }
+        ensures counted { IfErr result (λ refused. CountsFaults {T = ⊤} (J.disk_faults disk.entry.now) (J.disk_faults refused.1.now) (Err refused.0)) }
         ensures any_moment { MatchResult result
             (λ found. IfSome (J.told disk.entry.now) (λ file. LeavesOnly J.moment J.left_since disk.entry.now found.0.disk.now
             (λ c. J.may_leave disk.entry.now c ⊎ IsBeingMade file c)))

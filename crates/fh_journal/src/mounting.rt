@@ -1,13 +1,13 @@
 // How a file becomes a journal.
-ghost use Rattle.std.specs.Prelude.{◌≡◌, ◌⊎◌, ◌≤◌, ◌<◌, [], false, ℕ, List, IfSome, IfOk, OnOk, length, IsErrOf};
+ghost use Rattle.std.specs.Prelude.{◌≡◌, ◌⊎◌, ◌≤◌, ◌<◌, [], false, ℕ, List, IfSome, IfOk, OnOk, length};
 ghost use Rattle.std.specs.Option.{option_map};
-ghost use Rattle.fh_base.specs.Faults.{HasCause, Rose};
+ghost use Rattle.fh_base.specs.Faults.{HasCause};
 ghost use Rattle.fh_disk.specs.Disk.{OnlyTold};
 ghost use Rattle.fh_disk.specs.Moments.{LeavesOnly};
 ghost use Rattle.fh_journal.specs.Frames.{payloads_of, frames_from};
 ghost use Rattle.fh_journal.specs.Journal.{IsJournalOf};
 ghost use Rattle.fh_journal.specs.Keeping.{Keeps, OnlyReads, StaysTold};
-ghost use Rattle.fh_journal.specs.Mounting.{IsBeingMade, MountsTold, fresh_file};
+ghost use Rattle.fh_journal.specs.Mounting.{CountsFaults, IsBeingMade, MountsTold, UnlessDiskFault, fresh_file};
 ghost use Rattle.fh_journal.specs.Reading.{BeginsWithHeader, IsFresh};
 
 use crate::MountFault;
@@ -40,17 +40,16 @@ pub struct Prepared {
 /// Nothing else is written, and a file that is refused stays as it is.
 pub fn prepare<J: Disk>(alloc: Global, disk: &mut J) -> Result<Prepared, MountFault>
     ensures stands { IfOk result (λ made. Keeps (J.told disk.new) (J.may_leave disk.new) false (payloads_of made.frames) [] made.gate) }
-    ensures durable { OnOk result (OnlyTold (J.told disk.new) (J.may_leave disk.new)) }
+    ensures durable { UnlessDiskFault (OnlyTold (J.told disk.new) (J.may_leave disk.new)) result }
     ensures places { IfOk result (λ made. made.frames ≡ frames_from 6 (payloads_of made.frames)) }
     ensures file { MountsTold (J.told disk.old) (J.told disk.new) result }
-    ensures fault { IsErrOf result MountFault.DiskFault → Rose (J.disk_faults disk.old) (J.disk_faults disk.new) }
+    ensures counted { CountsFaults (J.disk_faults disk.old) (J.disk_faults disk.new) result }
     ensures any_moment { IfSome (J.told disk.old) (λ file. LeavesOnly J.moment J.left_since disk.old disk.new
         (λ c. J.may_leave disk.old c ⊎ IsBeingMade file c)) }
     ensures same_journal { (payloads : List (List ℕ)) → IfSome (J.told disk.old) (λ file. IsJournalOf file payloads
         → LeavesOnly J.moment J.left_since disk.old disk.new (λ c. J.may_leave disk.old c ⊎ IsJournalOf c payloads)) }
     ensures told { StaysTold (J.told disk.old) (J.told disk.new) }
     ensures count { J.disk_faults disk.old ≤ J.disk_faults disk.new }
-    ensures passed { OnOk result (J.disk_faults disk.new ≡ J.disk_faults disk.old) }
 {
     let end = begin(disk)?;
     if end <= FRESH.len() as u64 {

@@ -91,10 +91,14 @@ fn files_that_are_refused(rt: HostRuntime) -> Result<(), Fail> {
     Ok(())
 }
 
+// What may be handed to another thread.
+fn moves_between_threads<T: Send>(_value: &T) {}
+
 #[test]
 fn a_file_that_is_cut_at_50_bytes(rt: HostRuntime) -> Result<(), Fail> {
     let mut disk = disk_of(&rt, &FRESH, 99)?;
     let mut journal = Journal::over(rt.alloc(), &mut disk, 6);
+    moves_between_threads(&journal);
     assert_eq!(rt; append(&mut journal, &[7; 19])?, Ok(6));
     assert_eq!(rt; append(&mut journal, &[8; 40])?, Ok(30));
     let disk = journal.close();

@@ -1,5 +1,5 @@
 -- How the last line of a run stands behind its answers.
-use Rattle.std.proofs.Common.{◌≡◌, inl, inr, ℕ, zero, suc, ◌≤◌, ◌∷◌, List, [], ◌++◌, take, Option, refl, subst, arith, append-nil}
+use Rattle.std.proofs.Common.{◌≡◌, inl, inr, ℕ, zero, suc, ◌≤◌, ◌∷◌, List, [], ◌++◌, take, Option, refl, subst, arith, append-nil, ◌∙◌}
 use Rattle.std.specs.Io.KnownBytes.{Appends}
 use Rattle.fh_base.specs.Faults.{Rose}
 use Rattle.fh_base.proofs.Appending.{appends-append}
@@ -7,9 +7,9 @@ use Rattle.fh_script.specs.Machine.{answer_line, printed, run}
 use Rattle.fh_hub.specs.Replay.{Entry}
 use Rattle.fh_hub.specs.declared.faults.HubFault.{HubFault}
 use Rattle.fh_hub.specs.declared.faults.HubFault.TheVariants as mounts
-use Rattle.fh_script.specs.Concluding.{Concludes}
+use Rattle.fh_base.specs.Ends.{Concludes}
 use Rattle.fh_script.specs.Ends.{code_of, last_line}
-use Rattle.fh_script.specs.Script.{Outside, Imaging, Wrote, Answered, AnsweredAll, AnsweredBefore, Unwritten, CutOff, Unmounted, HasLinesReason, HasReason, EndsBy}
+use Rattle.fh_script.specs.Script.{Outside, Imaging, Wrote, Answered, AnsweredAll, AnsweredBefore, Unwritten, CutOff, Unmounted, HasLinesReason, HasReason, CountsOwn, EndsBy}
 use Rattle.fh_script.specs.declared.ends.End.{End}
 use Rattle.fh_script.specs.declared.ends.End.TheVariants.{Finished, Usage, BadHeader, BadFrame, ReadFault, DiskFault, WriteFault, LongLine, NoMemory}
 
@@ -150,15 +150,18 @@ module _ (was mid : Outside) (leaves : Imaging) (written : Option (List ℕ)) (f
   reason_behind NoMemory n (inr reason) later writes = inr (lines_reason_behind NoMemory n reason later writes)
 
   -- a run that has a reason to end, and then writes its last line
-  pub ends_by : (end : End) (code : ℕ) → code ≡ code_of end → HasReason was mid leaves [] end → was.write_faults ≤ mid.write_faults
+  pub ends_by : (end : End) (code : ℕ) → code ≡ code_of end → HasReason was mid leaves [] end → CountsOwn was mid end → was.write_faults ≤ mid.write_faults
       → mid.write_faults ≤ faults → Concludes mid.written written (last_line end) mid.write_faults faults
       → EndsBy was (record mid { written = written; write_faults = faults }) leaves code
-  ends_by end code status reason before later concludes = record {
+  ends_by end code status reason own before later concludes = record {
     end = end;
     status = status;
     written = concludes.written;
     whole = λ less. rose_from before (concludes.whole less);
     reason = reason_behind end concludes.written reason later concludes.part;
+    reading = own.reading;
+    disk = own.disk;
+    writing = λ no all. concludes.passed all ∙ own.writing no;
   }
     where
       rose_from : was.write_faults ≤ mid.write_faults → Rose mid.write_faults faults → Rose was.write_faults faults

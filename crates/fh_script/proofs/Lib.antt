@@ -5,6 +5,7 @@ pub mod Turns
 pub mod Turning
 pub mod Starting
 pub mod LastLines
+pub mod Completing
 pub mod Decoding
 pub mod Numbers
 pub mod Printing

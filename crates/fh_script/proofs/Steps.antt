@@ -1,5 +1,7 @@
 -- What a step leaves of a journal that stands for a history.
-use Rattle.std.proofs.Common.{◌≡◌, ◌⊎◌, inl, inr, ℕ, Bool, true, false, List, [], ◌∷◌, ◌++◌, Option, Some, None, IfSome, refl, sym, subst}
+use Rattle.std.proofs.Common.{◌≡◌, ◌⊎◌, inl, inr, ℕ, Bool, true, false, List, [], ◌∷◌, ◌++◌, Option, Some, None, IfSome, Err, refl, sym, subst}
+use Rattle.fh_base.specs.Faults.{Rose}
+use Rattle.fh_disk.specs.Disk.{OnlyTold}
 use Rattle.fh_disk.specs.Moments.{LeavesOnly}
 use Rattle.fh_event.specs.declared.command.Command.{Command}
 use Rattle.fh_journal.specs.Keeping.{Keeps}
@@ -13,9 +15,10 @@ use Rattle.fh_hub.specs.History.{entry_of}
 use Rattle.fh_hub.specs.Replay.{Entry, bytes_of, payloads_of, noted_of}
 use Rattle.fh_hub.proofs.Crashes.{untouched}
 use Rattle.fh_hub.proofs.Replays.{payloads_push}
+use Rattle.fh_hub.specs.Mounting.{CountsFaults, UnlessDiskFault}
 use Rattle.fh_hub.specs.declared.faults.HubFault.{HubFault}
 use Rattle.fh_hub.specs.declared.faults.HubFault.TheVariants as mounts
-use Rattle.fh_script.specs.Ends.{code_of, end_of_mount}
+use Rattle.fh_script.specs.Ends.{code_of, end_of_mount, fails_on_disk}
 use Rattle.fh_script.specs.Script.{SurvivesCrash, is_certain}
 use Rattle.fh_script.specs.Session.{Holds, HasStopCause, StandsEither}
 use Rattle.fh_script.specs.declared.ends.End.{End}
@@ -71,24 +74,52 @@ survives (Some file) images history gate holds = λ other c stands left.
     (journal_once file (payloads_of history) (payloads_of other) (inr (gate, holds.as_read)) stands)
     (inr (gate, holds.after_crash c left))
 
--- a line that has no answer leaves something in doubt, or is for want of memory
-pub in_doubt : (before after : ℕ) (end : End) → HasStopCause before after end → is_certain (code_of end) ≡ true → ⊥
-in_doubt before after Finished cause certain = absurd cause
-in_doubt before after Usage cause certain = absurd cause
-in_doubt before after BadHeader cause certain = absurd cause
-in_doubt before after (BadFrame at rule) cause certain = absurd cause
-in_doubt before after ReadFault cause certain = absurd cause
-in_doubt before after DiskFault cause certain = absurd (cc)
-in_doubt before after WriteFault cause certain = absurd cause
-in_doubt before after LongLine cause certain = absurd cause
-in_doubt before after NoMemory cause certain = absurd (cc)
+-- where a crash leaves what reads give and nothing else, it leaves whatever that stands for
+pub survives_alone : (told : Option (List ℕ)) (images : List ℕ → Type 0) → OnlyTold told images → SurvivesCrash told images
+survives_alone None images only = tt
+survives_alone (Some file) images only = λ history c stands left.
+    subst (λ (f : List ℕ). StandsForHistory history f) (sym (only c left)) stands
 
--- a journal that isn't mounted is no certain end
-pub unmounted_in_doubt : (fault : HubFault) → is_certain (code_of (end_of_mount fault)) ≡ true → ⊥
-unmounted_in_doubt mounts.BadHeader certain = absurd (cc)
-unmounted_in_doubt (mounts.BadFrame at rule) certain = absurd (cc)
-unmounted_in_doubt mounts.DiskFault certain = absurd (cc)
-unmounted_in_doubt mounts.NoMemory certain = absurd (cc)
+-- a line that has no answer leaves something in doubt, unless it is for want of memory
+pub lacks_memory_alone : (before after : ℕ) (end : End) → HasStopCause before after end → is_certain (code_of end) ≡ true → end ≡ NoMemory
+lacks_memory_alone before after Finished cause certain = absurd cause
+lacks_memory_alone before after Usage cause certain = absurd cause
+lacks_memory_alone before after BadHeader cause certain = absurd cause
+lacks_memory_alone before after (BadFrame at rule) cause certain = absurd cause
+lacks_memory_alone before after ReadFault cause certain = absurd cause
+lacks_memory_alone before after DiskFault cause certain = absurd (cc)
+lacks_memory_alone before after WriteFault cause certain = absurd cause
+lacks_memory_alone before after LongLine cause certain = absurd cause
+lacks_memory_alone before after NoMemory cause certain = refl
+
+-- a line that has no answer counts a fault of the disk at a disk fault alone
+pub stop_counts : (before after : ℕ) (end : End) → HasStopCause before after end → fails_on_disk end ≡ false → after ≡ before
+stop_counts before after Finished cause own = absurd cause
+stop_counts before after Usage cause own = absurd cause
+stop_counts before after BadHeader cause own = absurd cause
+stop_counts before after (BadFrame at rule) cause own = absurd cause
+stop_counts before after ReadFault cause own = absurd cause
+stop_counts before after DiskFault cause own = absurd (cc)
+stop_counts before after WriteFault cause own = absurd cause
+stop_counts before after LongLine cause own = absurd cause
+stop_counts before after NoMemory cause own = cause
+
+-- a journal that isn't mounted is in doubt behind a disk fault alone
+pub unmounted_in_doubt : (T : Type 0) (P : Type 0) (fault : HubFault) → UnlessDiskFault {T = T} P (Err fault) → is_certain (code_of (end_of_mount fault)) ≡ true → P
+unmounted_in_doubt T P mounts.BadHeader it certain = it
+unmounted_in_doubt T P (mounts.BadFrame at rule) it certain = it
+unmounted_in_doubt T P mounts.DiskFault it certain = absurd (cc)
+unmounted_in_doubt T P mounts.NoMemory it certain = it
+
+-- and counts a fault there alone
+pub mount_counts : (T : Type 0) (before after : ℕ) (fault : HubFault) → CountsFaults {T = T} before after (Err fault) → fails_on_disk (end_of_mount fault) ≡ false → after ≡ before
+mount_counts T before after mounts.BadHeader it own = it
+mount_counts T before after (mounts.BadFrame at rule) it own = it
+mount_counts T before after mounts.DiskFault it own = absurd (cc)
+mount_counts T before after mounts.NoMemory it own = it
+
+pub mount_fails : (T : Type 0) (before after : ℕ) (fault : HubFault) → CountsFaults {T = T} before after (Err fault) → fault ≡ mounts.DiskFault → Rose before after
+mount_fails T before after fault it is = subst (λ (f : HubFault). CountsFaults {T = T} before after (Err f)) is it
 
 -- behind one whose append failed
 stands_torn : (told : Option (List ℕ)) (images : List ℕ → Type 0) (torn : Bool) (history : List Entry) (failed : Entry) (gate : ℕ)

@@ -1,5 +1,5 @@
 -- How a run ends: its status, and its last line.
-use Rattle.std.specs.Prelude.{ℕ, List, [], ◌∷◌, ◌++◌, codes}
+use Rattle.std.specs.Prelude.{ℕ, Bool, true, false, List, [], ◌∷◌, ◌++◌, codes}
 use Rattle.std.specs.Fmt.{decimal}
 use Rattle.fh_event.specs.declared.faults.EventFault.{EventFault}
 use Rattle.fh_event.specs.declared.faults.EventFault.TheVariants as events
@@ -75,3 +75,16 @@ end_of_mount mounts.BadHeader = BadHeader
 end_of_mount (mounts.BadFrame at rule) = BadFrame at rule
 end_of_mount mounts.DiskFault = DiskFault
 end_of_mount mounts.NoMemory = NoMemory
+
+-- the ends at which the source, the disk or the sink failed
+abbrev pub fails_reading : End → Bool
+fails_reading ReadFault = true
+fails_reading _ = false
+
+abbrev pub fails_on_disk : End → Bool
+fails_on_disk DiskFault = true
+fails_on_disk _ = false
+
+abbrev pub fails_writing : End → Bool
+fails_writing WriteFault = true
+fails_writing _ = false

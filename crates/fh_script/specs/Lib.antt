@@ -1,4 +1,3 @@
-pub mod Concluding
 pub mod Ends
 pub mod Forms
 pub mod Grammar

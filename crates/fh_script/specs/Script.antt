@@ -16,7 +16,7 @@ use Rattle.fh_hub.specs.declared.faults.HubFault.TheVariants as mounts
 use Rattle.fh_script.specs.Lines.{lines, line_length, line_feeds}
 use Rattle.fh_script.specs.Machine.{answer_line, printed, run}
 use Rattle.fh_script.specs.Session.{StandsEither}
-use Rattle.fh_script.specs.Ends.{code_of, last_line}
+use Rattle.fh_script.specs.Ends.{code_of, fails_on_disk, fails_reading, fails_writing, last_line}
 use Rattle.fh_script.specs.declared.ends.End.{End}
 use Rattle.fh_script.specs.declared.ends.End.TheVariants.{Finished, Usage, BadHeader, BadFrame, ReadFault, DiskFault, WriteFault, LongLine, NoMemory}
 
@@ -192,17 +192,44 @@ IsOfLines WriteFault = ⊤
 IsOfLines LongLine = ⊤
 IsOfLines NoMemory = ⊤
 
--- a run that has this end: its last line stands behind the answers, cut only where the sink failed and counted it
+-- no object has counted a fault but the one that failed at this end
+pub record CountsOwn (was now : Outside) (end : End) : Type 0 where
+  pub reading : fails_reading end ≡ false → now.read_faults ≡ was.read_faults
+  pub disk : fails_on_disk end ≡ false → now.disk_faults ≡ was.disk_faults
+  pub writing : fails_writing end ≡ false → now.write_faults ≡ was.write_faults
+
+-- A run that has this end: its last line stands behind the answers, cut only where the sink failed and counted it. No
+-- object has counted another fault.
 pub record EndsBy (was now : Outside) (leaves : Imaging) (code : ℕ) : Type 0 where
   pub end : End
   pub status : code ≡ code_of end
   pub written : ℕ
   pub whole : written < length (last_line end) → Rose was.write_faults now.write_faults
   pub reason : HasReason was now leaves (take written (last_line end)) end
+  pub reading : fails_reading end ≡ false → now.read_faults ≡ was.read_faults
+  pub disk : fails_on_disk end ≡ false → now.disk_faults ≡ was.disk_faults
+  pub writing : fails_writing end ≡ false → length (last_line end) ≤ written → now.write_faults ≡ was.write_faults
 
--- the statuses at which the journal is mounted and no call on its disk has left anything in doubt
+-- the statuses at which no call on the journal's disk has left anything in doubt
 abbrev pub is_certain : ℕ → Bool
-is_certain code = (code == 0) || (code == 5) || (code == 7) || (code == 8)
+is_certain code = (code == 0) || (code == 4) || (code == 5) || (code == 7) || (code == 8) || (code == 9)
+
+-- A run that has to finish, or to lack memory: the file stands for a legal history, and no line is too long.
+pub record IsReady (was : Outside) : Type 0 where
+  pub file : List ℕ
+  pub told : was.told ≡ Some file
+  pub opening : List Entry
+  pub legal : IsLegal opening
+  pub stands : StandsForHistory opening file
+  pub bytes : List ℕ
+  pub left : was.left ≡ Some bytes
+  pub short : list_all is_short_line (lines bytes) ≡ true
+
+-- no count rose
+pub record NoneRose (was now : Outside) : Type 0 where
+  pub reading : Rose was.read_faults now.read_faults → ⊥
+  pub writing : Rose was.write_faults now.write_faults → ⊥
+  pub disk : Rose was.disk_faults now.disk_faults → ⊥
 
 -- where the bytes are told, a crash leaves whatever history they stand for
 abbrev pub SurvivesCrash : Option (List ℕ) → (List ℕ → Type 0) → Type 0

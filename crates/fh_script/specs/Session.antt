@@ -25,10 +25,10 @@ HoldsIn {D} {J} hub = Holds (J.told hub.journal.disk.now) (J.may_leave hub.journ
 abbrev pub StandsEither : List Entry → List Entry → List ℕ → Type 0
 StandsEither history entries file = StandsForHistory history file ⊎ StandsForHistory (history ++ entries) file
 
--- why a line has no answer: the disk failed and counted it, or memory was refused
+-- why a line has no answer: the disk failed and counted it, or memory was refused and nothing failed
 abbrev pub HasStopCause : ℕ → ℕ → End → Type 0
 HasStopCause before after DiskFault = Rose before after
-HasStopCause before after NoMemory = ⊤
+HasStopCause before after NoMemory = after ≡ before
 HasStopCause before after Finished = ⊥
 HasStopCause before after Usage = ⊥
 HasStopCause before after BadHeader = ⊥

@@ -1,6 +1,7 @@
 // The lines of a source.
 ghost use Rattle.std.specs.Prelude.{◌≡◌, ◌<◌, ◌≤◌, true, false, IfOk, IfErr, OnOk, length};
 ghost use Rattle.std.specs.Io.KnownBytes.{Consumes, IsAtEnd};
+ghost use Rattle.fh_script.specs.Ends.{fails_reading};
 ghost use Rattle.fh_script.specs.Lines.{ReadsLine, HasLineReason, is_ended, line_feeds, line_length, line_text};
 
 use crate::End;
@@ -24,6 +25,7 @@ pub(crate) fn read_line<S: Source>(source: &mut S, line: &mut Vec<u8>) -> Result
         (S.read_faults source.old) (S.read_faults source.new)) }
     ensures less { IfOk result (λ found. found ≡ true → S.most source.new < S.most source.old) }
     ensures passed { OnOk result (S.read_faults source.new ≡ S.read_faults source.old) }
+    ensures own { IfErr result (λ end. fails_reading end ≡ false → S.read_faults source.new ≡ S.read_faults source.old) }
     ensures count { S.read_faults source.old ≤ S.read_faults source.new }
 {
     line.clear();

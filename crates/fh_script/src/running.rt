@@ -1,18 +1,18 @@
 // The top call of the script.
-ghost use Rattle.std.specs.Prelude.{◌≡◌, ◌≤◌, ◌==◌, [], true, false, not};
+ghost use Rattle.std.specs.Prelude.{◌≡◌, ◌≤◌, ◌⊎◌, ◌==◌, [], true, false, not};
 ghost use Rattle.fh_journal.specs.Keeping.{StaysTold};
 ghost use Rattle.fh_script.specs.Ends.{code_of, last_line};
 ghost use Rattle.fh_hub.specs.State.{world_of};
 ghost use Rattle.fh_hub.specs.Replay.{replay, IsLegal};
-ghost use Rattle.fh_script.specs.Script.{EndsBy, HasLinesReason, HasReason, IsOfLines, SurvivesCrash, imaging, imaging_lines, is_certain, is_script, outside};
+ghost use Rattle.fh_script.specs.Script.{CountsOwn, EndsBy, HasLinesReason, HasReason, IsOfLines, IsReady, NoneRose, SurvivesCrash, imaging, imaging_lines, is_certain, is_script, outside};
 ghost use Rattle.fh_script.specs.Session.{HoldsIn, StaysToldIn};
-ghost use Rattle.fh_script.specs.Concluding.{Concludes};
+ghost use Rattle.fh_base.specs.Ends.{Concludes};
 
 use crate::End;
 use crate::ends::damaged_line;
 use crate::lines::read_line;
 use crate::session::Session;
-use fh_base::{Sink, Source, Status, write_all};
+use fh_base::{Sink, Source, Status, write_all, write_last_line};
 use fh_disk::Disk;
 use fh_hub::prepare;
 use std::alloc::Global;
@@ -37,6 +37,14 @@ pub fn script<S: Source, O: Sink, J: Disk, K: Disk>(
         (J.told journal.new) (J.disk_faults journal.new))
         (imaging J.told J.may_leave J.moment J.left_since journal.old journal.new)
         result.code }
+    ensures complete { is_script words.now ≡ true
+        → IsReady (outside (S.left source.old) (S.read_faults source.old) (O.written sink.old) (O.write_faults sink.old)
+        (J.told journal.old) (J.disk_faults journal.old))
+        → NoneRose (outside (S.left source.old) (S.read_faults source.old) (O.written sink.old) (O.write_faults sink.old)
+        (J.told journal.old) (J.disk_faults journal.old))
+        (outside (S.left source.new) (S.read_faults source.new) (O.written sink.new) (O.write_faults sink.new)
+        (J.told journal.new) (J.disk_faults journal.new))
+        → (result.code ≡ 0) ⊎ (result.code ≡ 9) }
     ensures passed { result.code ≡ 0 → (S.read_faults source.new ≡ S.read_faults source.old)
         × (O.write_faults sink.new ≡ O.write_faults sink.old) × (J.disk_faults journal.new ≡ J.disk_faults journal.old) }
     ensures told { StaysTold (J.told journal.old) (J.told journal.new) }
@@ -77,7 +85,7 @@ fn conclude<O: Sink>(sink: &mut O, end: End, line: &str) -> Status
     ensures count { O.write_faults sink.old ≤ O.write_faults sink.new }
 {
     // The status stays where its line can't be written.
-    let _written = write_all(sink, line.as_bytes());
+    write_last_line(sink, line);
     Status { code: end.code() }
 }
 
@@ -95,8 +103,12 @@ fn run<S: Source, O: Sink, J: Disk>(
         (J.told journal.new) (J.disk_faults journal.new))
         (imaging J.told J.may_leave J.moment J.left_since journal.old journal.new)
         [] result }
-    ensures passed { result ≡ End.Finished → (S.read_faults source.new ≡ S.read_faults source.old)
-        × (O.write_faults sink.new ≡ O.write_faults sink.old) × (J.disk_faults journal.new ≡ J.disk_faults journal.old) }
+    ensures own { CountsOwn
+        (outside (S.left source.old) (S.read_faults source.old) (O.written sink.old) (O.write_faults sink.old)
+        (J.told journal.old) (J.disk_faults journal.old))
+        (outside (S.left source.new) (S.read_faults source.new) (O.written sink.new) (O.write_faults sink.new)
+        (J.told journal.new) (J.disk_faults journal.new))
+        result }
     ensures told { StaysTold (J.told journal.old) (J.told journal.new) }
     ensures durable { is_certain (code_of result) ≡ true → SurvivesCrash (J.told journal.new) (J.may_leave journal.new) }
     ensures unread { code_of result ≡ 4 → source.new ≡ source.old }
@@ -133,9 +145,12 @@ fn answer_lines<S: Source, O: Sink, J: Disk>(
         (imaging_lines J.told J.moment J.left_since
         session.old.hub.journal.disk.now session.new.hub.journal.disk.now)
         [] result }
-    ensures passed { result ≡ End.Finished → (S.read_faults source.new ≡ S.read_faults source.old)
-        × (O.write_faults sink.new ≡ O.write_faults sink.old)
-        × (J.disk_faults session.new.hub.journal.disk.now ≡ J.disk_faults session.old.hub.journal.disk.now) }
+    ensures own { CountsOwn
+        (outside (S.left source.old) (S.read_faults source.old) (O.written sink.old) (O.write_faults sink.old)
+        (J.told session.old.hub.journal.disk.now) (J.disk_faults session.old.hub.journal.disk.now))
+        (outside (S.left source.new) (S.read_faults source.new) (O.written sink.new) (O.write_faults sink.new)
+        (J.told session.new.hub.journal.disk.now) (J.disk_faults session.new.hub.journal.disk.now))
+        result }
     ensures told { StaysToldIn session.old session.new }
     ensures durable { is_certain (code_of result) ≡ true
         → SurvivesCrash (J.told session.new.hub.journal.disk.now) (J.may_leave session.new.hub.journal.disk.now) }

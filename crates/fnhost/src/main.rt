@@ -1,22 +1,44 @@
 //! `fnhost`: makes the real objects, and hands the words of the command line to the top call.
 //!
 //! Promised: the words are the arguments behind the program's name; the second names the journal's file, and
-//! the third that of the checkpoint. The exit status is 2 exactly where the words are no command, unless
-//! memory is refused before the top call, which gives 9. What the command does is the contract of
-//! `fh_script::script`, over a source, a sink and disks that tell nothing.
+//! the third that of the checkpoint. The exit status is the top call's, unless something is missing before
+//! it: 9 where memory is refused, 6 where the null device can't be opened. What the command does is the
+//! contract of `fh_script::script`, over a source, a sink and disks that tell nothing. No file is opened
+//! before the descriptors of the three standard streams are taken, so none can stand for a stream that was
+//! closed.
 #![tactic(auto)]
 
-ghost use Rattle.std.specs.Prelude.{◌≡◌, ◌==◌, not, drop, slice_get, IfOk, IsErr, string_bytes};
+ghost use Rattle.std.specs.Prelude.{◌≡◌, ◌≢◌, ◌==◌, [], not, drop, slice_get, IfOk, IfErr, OnErr, IsErr, string_bytes};
+ghost use Rattle.std.specs.Process.{exit_status};
 ghost use Rattle.fh_script.specs.Script.{is_script};
 ghost use Rattle.fnhost.specs.Words.{path_of};
+ghost use Rattle.fnhost.specs.Ends.{unready_code};
 
-use fh_base::{Sink, Source, Status, StreamSink, StreamSource};
+use fh_base::{NoMemory, Sink, Source, Status, StreamSink, StreamSource};
 use fh_disk::FileDisk;
-use fh_script::{End, script};
-use std::alloc::{AllocError, Global};
+use fh_script::script;
+use std::alloc::Global;
+use std::fs::File;
 use std::io::ErrorKind;
 use std::process::ExitCode;
-use std::{env, io};
+use std::{env, fs, io};
+
+/// What is missing before the top call can be made.
+#[derive(Clone, Copy, Debug, PartialEq, Eq)]
+enum Unready {
+    NoMemory,
+    /// The null device can't be opened, so a file might take the descriptor of a closed stream.
+    NoNullDevice,
+}
+
+/// Handles on the null device, which take the descriptors of standard streams that were closed. A closed
+/// input then has no lines, and a write to a closed output fails.
+#[derive(Drop)]
+struct HeldStreams {
+    _first: File,
+    _second: File,
+    _third: File,
+}
 
 /// The files that a command works on.
 #[derive(Drop)]
@@ -26,32 +48,67 @@ struct CommandFiles {
 }
 
 fn main(rt: HostRuntime) -> ExitCode {
-    ExitCode::from(code_of(call(&rt)))
+    exit_of(call(&rt))
 }
 
-// Memory that is refused before the top call ends the program as it does there, but for the last line.
-fn code_of(end: Result<Status, AllocError>) -> u8
-    ensures ok { IfOk end (λ status. result ≡ status.code) }
-    ensures err { IsErr end → result ≡ 9 }
+fn exit_of(end: Result<Status, Unready>) -> ExitCode
+    ensures ok { IfOk end (λ status. exit_status result ≡ status.code) }
+    ensures err { IfErr end (λ missing. exit_status result ≡ unready_code missing) }
 {
     match end {
-        Ok(Status { code }) => code,
-        Err(AllocError) => End::NoMemory.code(),
+        Ok(Status { code }) => ExitCode::from(code),
+        Err(missing) => ExitCode::from(unready_code(missing)),
     }
 }
 
-fn call(rt: &HostRuntime) -> Result<Status, AllocError> {
-    let alloc = rt.alloc();
-    let arguments = arguments(rt, alloc)?;
-    run(rt, alloc, behind_the_name(&arguments))
+fn unready_code(missing: Unready) -> u8
+    ensures { result ≡ unready_code missing }
+{
+    match missing {
+        Unready::NoMemory => 9,
+        Unready::NoNullDevice => 6,
+    }
 }
 
-// The arguments, the program's name first. A command line that isn't text has none.
-fn arguments(rt: &HostRuntime, alloc: Global) -> Result<Vec<String>, AllocError> {
+fn call(rt: &HostRuntime) -> Result<Status, Unready> {
+    let _held = hold_streams(rt)?;
+    let alloc = rt.alloc();
+    let arguments = arguments(rt, alloc)?;
+    Ok(run(rt, alloc, behind_the_name(&arguments))?)
+}
+
+// Has to be called before any other file is opened, and kept to the end.
+fn hold_streams(rt: &HostRuntime) -> Result<HeldStreams, Unready> {
+    Ok(HeldStreams {
+        _first: null_device(rt)?,
+        _second: null_device(rt)?,
+        _third: null_device(rt)?,
+    })
+}
+
+fn null_device(rt: &HostRuntime) -> Result<File, Unready> {
+    match fs::open(rt, "/dev/null") {
+        Ok(file) => Ok(file),
+        Err(_) => Err(Unready::NoNullDevice),
+    }
+}
+
+// The arguments, the program's name first.
+fn arguments(rt: &HostRuntime, alloc: Global) -> Result<Vec<String>, NoMemory> {
     match env::args(rt) {
-        Ok(arguments) => arguments.collect(alloc),
-        Err(error) if error.kind() == ErrorKind::OutOfMemory => Err(AllocError),
-        Err(_) => Ok(Vec::new(alloc)),
+        Ok(arguments) => Ok(arguments.collect(alloc)?),
+        Err(error) => arguments_without(alloc, error.kind()),
+    }
+}
+
+// The arguments where the host gives none for this reason: a command line that isn't text has no words.
+fn arguments_without(alloc: Global, reason: ErrorKind) -> Result<Vec<String>, NoMemory>
+    ensures words { IfOk result (λ none. none.items ≡ []) }
+    ensures memory { IsErr result → reason ≡ ErrorKind.OutOfMemory }
+{
+    match reason {
+        ErrorKind::OutOfMemory => Err(NoMemory),
+        _ => Ok(Vec::new(alloc)),
     }
 }
 
@@ -65,11 +122,11 @@ fn behind_the_name(arguments: &[String]) -> &[String]
 }
 
 // Runs the command of the words over the real objects.
-fn run(rt: &HostRuntime, alloc: Global, words: &[String]) -> Result<Status, AllocError>
+fn run(rt: &HostRuntime, alloc: Global, words: &[String]) -> Result<Status, NoMemory>
     ensures usage { IfOk result (λ status. (status.code == 2) ≡ not (is_script words.now)) }
 {
     let Ok(mut source) = StreamSource::new(alloc, rt.stdin()) else {
-        return Err(AllocError);
+        return Err(NoMemory);
     };
     let mut sink = StreamSink::new(io::writer(rt));
     let mut files = files_of(rt, alloc, words)?;
@@ -84,6 +141,8 @@ fn answer<S: Source, O: Sink>(
     sink: &mut O,
     files: &mut CommandFiles,
 ) -> Status
+    requires journal { string_bytes files.old.journal.path ≡ path_of (slice_get words.now 1) }
+    requires checkpoint { string_bytes files.old.checkpoint.path ≡ path_of (slice_get words.now 2) }
     ensures usage { (result.code == 2) ≡ not (is_script words.now) }
     ensures unasked { result.code ≡ 2 → files.new ≡ files.old }
     ensures checkpoint { files.new.checkpoint ≡ files.old.checkpoint }
@@ -95,7 +154,7 @@ fn answer<S: Source, O: Sink>(
     script(alloc, words, source, sink, journal, checkpoint)
 }
 
-fn files_of(rt: &HostRuntime, alloc: Global, words: &[String]) -> Result<CommandFiles, AllocError>
+fn files_of(rt: &HostRuntime, alloc: Global, words: &[String]) -> Result<CommandFiles, NoMemory>
     ensures journal { IfOk result (λ files. string_bytes files.journal.path ≡ path_of (slice_get words.now 1)) }
     ensures checkpoint { IfOk result (λ files. string_bytes files.checkpoint.path ≡ path_of (slice_get words.now 2)) }
 {
@@ -111,7 +170,7 @@ fn file_of(
     alloc: Global,
     words: &[String],
     place: usize,
-) -> Result<FileDisk<HostRuntime>, AllocError>
+) -> Result<FileDisk<HostRuntime>, NoMemory>
     ensures path { IfOk result (λ file. string_bytes file.path ≡ path_of (slice_get words.now place)) }
 {
     let path = match words.get(place) {
@@ -119,4 +178,10 @@ fn file_of(
         None => String::new(alloc),
     };
     Ok(FileDisk::new(*rt, path))
+}
+
+impl From<NoMemory> for Unready {
+    fn from(_refused: NoMemory) -> Unready {
+        Unready::NoMemory
+    }
 }

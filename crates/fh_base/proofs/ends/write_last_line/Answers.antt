@@ -11,11 +11,13 @@ concludes was now line before after (Ok done) writes cause = record {
   written = length line;
   part = rw (take_all (length line) line (omega arith)) writes;
   whole = λ less. absurd (omega (arith, less));
+  passed = λ all. cause.passed refl;
 }
 concludes was now line before after (Err failed) writes cause = record {
   written = writes.0;
   part = writes.2;
   whole = λ less. cause.failed refl;
+  passed = λ all. absurd (omega (arith, all, writes.1));
 }
 
 pub returns-clause-written : goal.returns-clause-written

@@ -6,7 +6,7 @@ use Rattle.fh_hub.specs.State.{world_of}
 use Rattle.fh_script.specs.Machine.{answer_line}
 use Rattle.fh_script.specs.Script.{StandsForPart}
 use Rattle.fh_hub.proofs.Crashes.{stays_as_told}
-use Rattle.fh_script.proofs.Steps.{stands, survives}
+use Rattle.fh_script.proofs.Steps.{lacks_memory_alone, stands, stop_counts, survives}
 use Rattle.fh_script.proofs.Imaging.{first_images, more_images, without_memory}
 use Rattle.fh_script.proofs.Turning.{begins, finished, line_stops, answer_stops, write_stops, one_more, ends_behind}
 use Rattle.fh_script.proofs.running.answer_lines.Goals as goal
@@ -143,6 +143,47 @@ pub returns-in-Err-clause-durable : goal.returns-in-Err-clause-durable
 returns-in-Err-clause-durable g c = λ certain.
     let mid = c.loop-line.session.hub in
     survives (g.J.Disk.told mid.journal.disk.now) (g.J.Disk.may_leave mid.journal.disk.now) mid.state.history mid.journal.gate c.loop-line.invariant.holds
+
+pub returns-in-Err-answer-clause-durable : goal.returns-in-Err-answer-clause-durable
+returns-in-Err-answer-clause-durable g c = λ certain.
+    let new = c.answer.new.self.hub in
+    survives (g.J.Disk.told new.journal.disk.now) (g.J.Disk.may_leave new.journal.disk.now) new.state.history new.journal.gate
+    (c.in-Err-answer.ensures.memory (ap Err (lacks_memory_alone _ _ c.in-Err-answer.end c.in-Err-answer.ensures.cause certain))).holds
+
+pub returns-in-Ok-false-clause-own : goal.returns-in-Ok-false-clause-own
+returns-in-Ok-false-clause-own g c = record {
+  reading = λ own. c.in-Ok-false.ensures.passed ∙ c.loop-line.invariant.reads;
+  disk = λ own. c.loop-line.invariant.disk;
+  writing = λ own. c.loop-line.invariant.writes;
+}
+
+pub returns-in-Err-clause-own : goal.returns-in-Err-clause-own
+returns-in-Err-clause-own g c = record {
+  reading = λ own. c.in-Err.ensures.own own ∙ c.loop-line.invariant.reads;
+  disk = λ own. c.loop-line.invariant.disk;
+  writing = λ own. c.loop-line.invariant.writes;
+}
+
+pub returns-in-Err-answer-clause-own : goal.returns-in-Err-answer-clause-own
+returns-in-Err-answer-clause-own g c = record {
+  reading = λ own. c.in-Ok-true.ensures.passed ∙ c.loop-line.invariant.reads;
+  disk = λ own. stop_counts _ _ c.in-Err-answer.end c.in-Err-answer.ensures.cause own ∙ c.loop-line.invariant.disk;
+  writing = λ own. c.loop-line.invariant.writes;
+}
+
+pub returns-in-Err-write_all-clause-own : goal.returns-in-Err-write_all-clause-own
+returns-in-Err-write_all-clause-own g c = record {
+  reading = λ own. c.in-Ok-true.ensures.passed ∙ c.loop-line.invariant.reads;
+  disk = λ own. c.in-Ok.ensures.passed ∙ c.loop-line.invariant.disk;
+  writing = λ own. absurd cc;
+}
+
+pub returns-then-not-ends_with-clause-own : goal.returns-then-not-ends_with-clause-own
+returns-then-not-ends_with-clause-own g c = record {
+  reading = λ own. c.in-Ok-true.ensures.passed ∙ c.loop-line.invariant.reads;
+  disk = λ own. c.in-Ok.ensures.passed ∙ c.loop-line.invariant.disk;
+  writing = λ own. c.in-Ok-write_all.ensures.cause.passed refl ∙ c.loop-line.invariant.writes;
+}
 
 pub returns-in-Err-write_all-clause-durable : goal.returns-in-Err-write_all-clause-durable
 returns-in-Err-write_all-clause-durable g c = λ certain.

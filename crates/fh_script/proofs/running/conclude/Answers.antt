@@ -1,36 +1,9 @@
-use Rattle.std.proofs.Common.{◌≡◌, ℕ, List, [], length, ap, Option, Result, Ok, Err, refl, arith, ◌∙◌, subst, take_all}
-use Rattle.fh_base.specs.declared.faults.Failed.{Failed}
-use Rattle.fh_base.specs.Faults.{HasCause}
-use Rattle.fh_base.specs.Streams.{WritesAll}
-use Rattle.fh_script.specs.Concluding.{Concludes}
+use Rattle.std.proofs.Common.{◌≡◌, ℕ, List, ◌∙◌, subst}
+use Rattle.fh_base.specs.Ends.{Concludes}
 use Rattle.fh_script.proofs.running.conclude.Goals as goal
-
-concludes : (was now : Option (List ℕ)) (line : List ℕ) (before after : ℕ) (result : Result (Unit {0}) Failed) → WritesAll was now result line
-    → HasCause before after result → Concludes was now line before after
-concludes was now line before after (Ok done) writes cause = record {
-  written = length line;
-  part = rw (take_all (length line) line (omega arith)) writes;
-  whole = λ less. absurd (omega (arith, less));
-}
-concludes was now line before after (Err failed) writes cause = record {
-  written = writes.0;
-  part = writes.2;
-  whole = λ less. cause.failed refl;
-}
-
-nothing_failed : (was now : Option (List ℕ)) (line : List ℕ) (before after : ℕ) (result : Result (Unit {0}) Failed) → WritesAll was now result line
-    → HasCause before after result → line ≡ [] → after ≡ before
-nothing_failed was now line before after (Ok done) writes cause none = cause.passed refl
-nothing_failed was now line before after (Err failed) writes cause none = absurd (omega (arith, writes.1, ap length none))
-
-pub returns-clause-passed : goal.returns-clause-passed
-returns-clause-passed g c = λ none.
-    nothing_failed _ _ _ _ _ c.write_all-written.result c.write_all-written.ensures.written c.write_all-written.ensures.cause
-    (c.as_bytes.ensures.value ∙ c.requires ∙ none)
 
 pub returns-clause-written : goal.returns-clause-written
 returns-clause-written g c =
-    subst (λ (line : List ℕ). Concludes (g.O.Sink.written c.args.sink.now) (g.O.Sink.written c.write_all-written.new.sink) line
-    (g.O.Sink.write_faults c.args.sink.now) (g.O.Sink.write_faults c.write_all-written.new.sink))
-    (c.as_bytes.ensures.value ∙ c.requires)
-    (concludes _ _ _ _ _ c.write_all-written.result c.write_all-written.ensures.written c.write_all-written.ensures.cause)
+    subst (λ (line : List ℕ). Concludes (g.O.Sink.written c.args.sink.now) (g.O.Sink.written c.write_last_line.new.sink) line
+    (g.O.Sink.write_faults c.args.sink.now) (g.O.Sink.write_faults c.write_last_line.new.sink))
+    c.requires c.write_last_line.ensures.written

@@ -1,13 +1,14 @@
-use Rattle.std.proofs.Common.{◌⊎◌, List, ℕ, IfSome, None, Err, refl, sym, ap, subst, rules}
+use Rattle.std.proofs.Common.{◌⊎◌, List, ℕ, IfSome, None, Err, refl, sym, ap, subst, rules, ◌∙◌}
 use Rattle.fh_disk.specs.Moments.{LeavesOnly}
 use Rattle.fh_journal.specs.Keeping.{StaysTold}
 use Rattle.fh_hub.specs.Hub.{StandsForHistory}
 use Rattle.fh_hub.specs.Mounting.{MountsHistory}
 use Rattle.fh_hub.specs.Replay.{Entry}
+use Rattle.fh_hub.specs.State.{HubState}
 use Rattle.fh_hub.proofs.Mounted.{stood_before}
 use Rattle.fh_script.proofs.Imaging.{from_mounting, while_mounting}
 use Rattle.fh_journal.proofs.Moments.{stays_told}
-use Rattle.fh_script.proofs.Steps.{unmounted_in_doubt}
+use Rattle.fh_script.proofs.Steps.{mount_counts, mount_fails, survives_alone, unmounted_in_doubt}
 use Rattle.fh_script.proofs.Starting.{from_start, from_disk, not_mounted}
 use Rattle.fh_script.proofs.running.run.Goals as goal
 
@@ -18,7 +19,7 @@ returns-in-Err-clause-reason g c =
     let now = c.prepare.new.disk in
     rw c.from.ensures
     (not_mounted _ _ (λ (P : List ℕ → Type 0). IfSome (J.told was) (λ _. LeavesOnly J.moment J.left_since was now (λ c. J.may_leave was c ⊎ P c)))
-    c.in-Err.fault refl refl c.in-Err.ensures.refused (λ is. c.in-Err.ensures.fault (ap Err is))
+    c.in-Err.fault refl refl c.in-Err.ensures.refused (mount_fails HubState _ _ c.in-Err.fault c.in-Err.ensures.counted)
     (while_mounting J.told J.may_leave J.moment J.left_since was now c.prepare.ensures.any_moment))
 
 pub returns-clause-reason : goal.returns-clause-reason
@@ -45,7 +46,25 @@ returns-clause-reason g c =
     c.answer_lines-end.ensures.reason)
 
 pub returns-in-Err-clause-durable : goal.returns-in-Err-clause-durable
-returns-in-Err-clause-durable g c = λ certain. absurd (unmounted_in_doubt c.in-Err.fault (rw c.from.ensures at certain))
+returns-in-Err-clause-durable g c = λ certain.
+    survives_alone _ _ (unmounted_in_doubt HubState _ c.in-Err.fault c.in-Err.ensures.durable (rw c.from.ensures at certain))
+
+pub returns-in-Err-clause-own : goal.returns-in-Err-clause-own
+returns-in-Err-clause-own g c = record {
+  reading = λ own. refl;
+  disk = λ own. mount_counts HubState _ _ c.in-Err.fault c.in-Err.ensures.counted (rw c.from.ensures at own);
+  writing = λ own. refl;
+}
+
+pub returns-clause-own : goal.returns-clause-own
+returns-clause-own g c =
+    let own = c.answer_lines-end.ensures.own in
+    record {
+      reading = own.reading;
+      disk = λ no.
+          ap g.J.Disk.disk_faults (search rules) ∙ own.disk no ∙ ap g.J.Disk.disk_faults c.over-session.ensures.disk ∙ c.in-Ok.ensures.counted;
+      writing = own.writing;
+    }
 
 pub returns-clause-told : goal.returns-clause-told
 returns-clause-told g c =
