@@ -8,6 +8,7 @@
 //! list of asks, from no queues on.
 #![tactic(auto)]
 
+mod act;
 mod ask;
 mod change;
 mod choosing;
@@ -24,12 +25,11 @@ mod staging;
 
 pub use ask::QueueAsk;
 pub use change::{QueueChange, StagedQueues};
-pub use done::{End, Ending, QueueDone};
+pub use done::{Ending, QueueDone};
 pub use laws::{
-    counts_stay_below_receipts, deletions_are_asked_for, ends_are_kept, expiries_come_at_the_end,
-    messages_are_in_one_place, messages_change_as_answered, numbers_are_given_in_turn,
-    places_are_known, receipts_are_given_once, receipts_guard_messages, receipts_only_rise,
-    rows_are_in_order, takes_list_visible_messages,
+    counters_move_little, messages_are_as_told, messages_go_on_as_answered,
+    numbers_are_given_in_turn, parts_stay_whole, places_are_known, receipts_are_given_in_turn,
+    receipts_guard_messages, receipts_only_rise, takes_list_visible_messages, texts_are_short,
 };
 pub use queues::Queues;
 pub use row::{About, Message};
