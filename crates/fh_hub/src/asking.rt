@@ -1,10 +1,9 @@
 // What a command asks: it is answered at once, or it asks all stores.
 ghost use Rattle.std.specs.Prelude.{◌≡◌, IfOk};
 ghost use Rattle.fh_event.specs.declared.reply.Reply.TheVariants.{Located};
-ghost use Rattle.fh_queues.specs.Asks.{ask_of};
 ghost use Rattle.fh_queues.specs.Outcome.{peeked};
 ghost use Rattle.fh_queues.specs.Places.{place_of};
-ghost use Rattle.fh_hub.specs.World.{Reads, asked, asked_of, asks_queues, reads_items};
+ghost use Rattle.fh_hub.specs.World.{Reads, asked, asked_of, reads_items};
 ghost use Rattle.fh_hub.specs.Asking.{asked_as};
 ghost use Rattle.fh_hub.specs.StoreEdits.{parts_of};
 
@@ -60,20 +59,29 @@ impl<'a> Asked<'a> {
             (λ a. asked_as a ≡ asked_of (parts_of stores.now) queue command.entry.now m) }
     {
         match command {
-            Command::MakeQueue { .. } => Ok(Asked::queues(QueueAsk::Make { queue })),
-            Command::Put {
-                delay, ttl, text, ..
-            } => Ok(Asked::queues(QueueAsk::Put {
-                queue,
-                delay: *delay,
-                ttl: *ttl,
-                text,
-                about: None,
+            Command::MakeQueue { .. } => Ok(Asked::Asks(StoreAsks {
+                queues: QueueAsk::Make { queue },
             })),
-            Command::Take { count, hold, .. } => Ok(Asked::queues(QueueAsk::Take {
-                queue,
-                count: *count,
-                hold: *hold,
+            Command::Put {
+                delay,
+                ttl,
+                text,
+                ..
+            } => Ok(Asked::Asks(StoreAsks {
+                queues: QueueAsk::Put {
+                    queue,
+                    delay: *delay,
+                    ttl: *ttl,
+                    text,
+                    about: None,
+                },
+            })),
+            Command::Take { count, hold, .. } => Ok(Asked::Asks(StoreAsks {
+                queues: QueueAsk::Take {
+                    queue,
+                    count: *count,
+                    hold: *hold,
+                },
             })),
             Command::Update {
                 number,
@@ -81,30 +89,32 @@ impl<'a> Asked<'a> {
                 hold,
                 text,
                 ..
-            } => Ok(Asked::queues(QueueAsk::Update {
-                queue,
-                number: *number,
-                receipt: *receipt,
-                hold: *hold,
-                text: text.as_ref(),
+            } => Ok(Asked::Asks(StoreAsks {
+                queues: QueueAsk::Update {
+                    queue,
+                    number: *number,
+                    receipt: *receipt,
+                    hold: *hold,
+                    text: text.as_ref(),
+                },
             })),
             Command::Delete {
-                number, receipt, ..
-            } => Ok(Asked::queues(QueueAsk::Delete {
-                queue,
-                number: *number,
-                receipt: *receipt,
+                number,
+                receipt,
+                ..
+            } => Ok(Asked::Asks(StoreAsks {
+                queues: QueueAsk::Delete {
+                    queue,
+                    number: *number,
+                    receipt: *receipt,
+                },
             })),
-            Command::Clear { .. } => Ok(Asked::queues(QueueAsk::Clear { queue })),
+            Command::Clear { .. } => Ok(Asked::Asks(StoreAsks {
+                queues: QueueAsk::Clear { queue },
+            })),
             Command::Peek { count, .. } => Asked::peeked(alloc, stores, &queue, *count, m),
             Command::Locate { number } => Ok(Asked::located(stores, *number, m)),
         }
-    }
-
-    fn queues(queues: QueueAsk<'a>) -> Asked<'a>
-        ensures { asked_as result ≡ asks_queues (ask_of queues) }
-    {
-        Asked::Asks(StoreAsks { queues })
     }
 
     fn located(stores: &Stores, number: u64, m: Moment) -> Asked<'a>

@@ -112,7 +112,6 @@ impl Stores {
     }
 
     /// Takes all the memory of changes that were planned on these stores as they are, and aren't quiet.
-    #[tactic(auto, using(crate::proofs::Outcomes::is_outcome_of_queues))]
     pub(crate) fn stage(&mut self, changes: StoreChanges) -> Result<StagedStores, NoMemory>
         requires idle { IsIdle self.old }
         requires numbers { HasNumbers (parts_of self.old) }

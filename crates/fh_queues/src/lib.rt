@@ -1,11 +1,11 @@
 //! Queues of messages: visibility, receipts, dequeue counts and expiry.
 //!
-//! Promised to the layer above: contracts see the queues, the rows of messages, the ends of messages
-//! that are gone and two counters. `plan` answers what an ask makes of them at a moment, or the rule that
-//! refuses it; `stage` takes all the memory of the change, and then `settle` makes exactly it and
-//! `unstage` makes nothing, both without memory. Rows that aren't live at the moment of a change go first
-//! and are noted as expired. `peek`, `live`, `row` and `place_of` read. `laws` says what holds after any
-//! list of asks, from no queues on.
+//! Promised to the layer above: contracts see the queues, the rows of messages, how each message went, and
+//! two counters. `plan` answers what an ask comes to, or the rule that refuses it; `too_full` what the
+//! queues would be too full for. A change is a list of acts: rows that aren't live at its moment go first,
+//! and have expired. `stage` takes all its memory, and then `settle` makes exactly it and `unstage` makes
+//! nothing, both without memory. `peek`, `live`, `row` and `place_of` read. `laws` says what holds of the
+//! queues at all times and of each ask. Read `specs/Part.antt`, `Acts.antt` and `Outcome.antt` first.
 #![tactic(auto)]
 
 mod act;
