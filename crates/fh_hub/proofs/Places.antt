@@ -219,8 +219,8 @@ module _ (events : List Event) (w : World) (h : Told events w) (n t : ℕ) (late
   by_seen : (s : Seen) → seen n w.parts.queues ≡ s → IsSeenBy n events w.last s → Placed n events w t
   by_seen Unborn is was =
       let gone = hidden Unborn is (λ row stands. cc) in
-      by_values false false false false gone.0 gone.1 was.1.1
-      (expired_by true false (ap (λ b. is_before t (expiry_by b)) (unborn n events was.0)) was.1.1)
+      by_values false false false false gone.0 gone.1 was.2
+      (expired_by true false (ap (λ b. is_before t (expiry_by b)) (unborn n events was.0)) was.2)
       (sym was.0) (placed_at Unborn is)
   by_seen (Stands row) is was = by_row row is was
   by_seen (Ended ending) is was = by_ending ending is was

@@ -3,6 +3,7 @@ use Rattle.std.proofs.Common.{◌≡◌, ℕ, ◌≤◌, ◌<◌, inl, inr, List
 use Rattle.std.specs.List.{All}
 use Rattle.std.proofs.lemmas.List.Elements.{All-nil, All-cons, All-append}
 use Rattle.fh_event.specs.declared.command.Command.{Command}
+use Rattle.fh_event.specs.declared.reply.Reply.{Reply}
 use Rattle.fh_queues.specs.declared.row.Message.{Message}
 use Rattle.fh_queues.specs.Rows.{row_of}
 use Rattle.fh_queues.specs.Receipts.{Rises}

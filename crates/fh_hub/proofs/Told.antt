@@ -17,11 +17,12 @@ use Rattle.fh_queues.specs.declared.done.Ending.TheVariants.{Deleted, Completed,
 use Rattle.fh_queues.specs.Asks.{Ask}
 use Rattle.fh_queues.specs.Rows.{is_before, is_live, is_dead, row_of}
 use Rattle.fh_queues.specs.Part.{QueuePart, no_queues, end_of}
+use Rattle.fh_queues.specs.Outcome.{after}
 use Rattle.fh_queues.specs.Seen.{Seen, Unborn, Stands, Ended, seen_by, seen}
 use Rattle.fh_queues.specs.Whole.{IsWhole}
 use Rattle.fh_queues.specs.Receipts.{born, given}
 use Rattle.fh_queues.specs.Goings.{answered, deletes, newly, goes_on}
-use Rattle.fh_queues.specs.Tellings.{items_in, lists, own_hold, newer, hold_given, queue_given, expiry_given, removes, IsNew}
+use Rattle.fh_queues.specs.Tellings.{items_in, lists, own_hold, newer, hold_given, queue_given, expiry_given, removes, IsNew, TellsOfMessages}
 use Rattle.fh_queues.proofs.Lawful.{Whole-none, Whole-outcome, row_seen, goes_as_answered, gives_numbers, gives_receipts, moves_little, tells}
 use Rattle.fh_hub.specs.World.{World, empty, effective_moment, reply_of, reply_of_queues}
 use Rattle.fh_hub.specs.Replay.{Entry, Event, trace, replay}
@@ -102,7 +103,7 @@ items_as_listed done.Swept = refl
 hold_as_told : (rows : List Message) (n m : ℕ) (command : Command) (answer : QueueDone) → (signs_of rows m command (reply_of_queues answer)).hold n ≡ hold_given n m (ask_of command) answer
 hold_as_told rows n m (MakeQueue queue) answer = refl
 hold_as_told rows n m (Put queue delay ttl text) answer = refl
-hold_as_told rows n m (Take queue count hold) answer = ap (λ items. if lists n items then Some (m + hold * 1000) else None) (items_as_listed answer)
+hold_as_told rows n m (Take queue count hold) answer = ap (λ items. if lists n items then Some (after m hold) else None) (items_as_listed answer)
 hold_as_told rows n m (Update queue number receipt hold text) answer = refl
 hold_as_told rows n m (Delete queue number receipt) answer = refl
 hold_as_told rows n m (Clear queue) answer = refl
@@ -140,7 +141,7 @@ expired_later m later None less is = absurd (cc)
 expired_later m later (Some end) less is = grind (arith, nat_tests)
 
 -- a message that doesn't stand has no row
-no_row : (n : ℕ) (part : QueuePart) (s : Seen) → seen n part ≡ s → ((row : Message) → s ≡ Stands row → ⊥) → row_of n part.rows ≡ None
+pub no_row : (n : ℕ) (part : QueuePart) (s : Seen) → seen n part ≡ s → ((row : Message) → s ≡ Stands row → ⊥) → row_of n part.rows ≡ None
 no_row n part s is never = by_found (row_of n part.rows) refl
   where
     by_found : (found : Option Message) → row_of n part.rows ≡ found → found ≡ None
@@ -222,21 +223,23 @@ module _ (events : List Event) (w : World) (command : Command) (now : ℕ) (new 
 
   seen_unborn : (n : ℕ) → seen n w.parts.queues ≡ Unborn → IsSeenBy n events w.last Unborn → IsSeenBy n more new.last (newly m ask answer n)
   seen_unborn n is was =
-      elim told.new n [
+      elim (told.new n) [
         | inl nothing ↦ subst (IsSeenBy n more new.last) (sym nothing.0) (
             births_push n ∙ ap (λ b. births n events + (if b then 1 else 0)) nothing.1 ∙ ap (λ k. k + 0) was.0,
-            (unheld, not_removed n was.1.1 none.1),
+            unheld,
+            not_removed n was.2 none.1,
           )
         | inr one ↦ subst (IsSeenBy n more new.last) (sym one.1.comes) (first one.0 one.1)
       ]
     where
+      told : TellsOfMessages w.parts.queues m ask new.parts.queues answer
       told = tells w.parts.queues ask m new.parts.queues answer h.whole made.queues
 
       none : (hold_given n m ask answer ≡ None) × (removes n m w.parts.queues.rows ask ≡ false)
       none = told.none n (no_row n w.parts.queues Unborn is (λ row stands. cc))
 
       unheld : last_hold n more ≡ None
-      unheld = last_hold_is n ∙ ap (newer (last_hold n events)) none.0 ∙ was.1.0
+      unheld = last_hold_is n ∙ ap (newer (last_hold n events)) none.0 ∙ was.1
 
       first : (row : Message) → IsNew n m ask answer row → IsTold n more row
       first row one =
@@ -248,12 +251,13 @@ module _ (events : List Event) (w : World) (command : Command) (now : ℕ) (new 
             queue = one.queue ∙ sym (ap queue_by birth ∙ gave.queue);
             expiry = one.expiry ∙ sym (ap expiry_by birth ∙ gave.expiry);
             hold = one.unheld ∙ sym unheld;
-            stays = not_removed n was.1.1 none.1;
+            stays = not_removed n was.2 none.1;
           }
 
   seen_row : (n : ℕ) (row : Message) → row_of n w.parts.queues.rows ≡ Some row → IsTold n events row → IsSeenBy n more new.last (goes_on m ask answer n (Stands row))
   seen_row n row found was = by_tests (is_live m row) (deletes ask row) refl refl
     where
+      told : TellsOfMessages w.parts.queues m ask new.parts.queues answer
       told = tells w.parts.queues ask m new.parts.queues answer h.whole made.queues
 
       by_tests : (alive out : Bool) → is_live m row ≡ alive → deletes ask row ≡ out → IsSeenBy n more new.last (goes_on m ask answer n (Stands row))
@@ -317,8 +321,8 @@ unseen : (n : ℕ) → IsSeenBy n [] 0 (seen n no_queues)
 unseen n = by_test (n == 0)
   where
     by_test : (zero : Bool) → IsSeenBy n [] 0 (seen_by None (if zero then None else None))
-    by_test true = (refl, (refl, refl))
-    by_test false = (refl, (refl, refl))
+    by_test true = (refl, refl, refl)
+    by_test false = (refl, refl, refl)
 
 pub told_none : Told [] empty
 told_none = record { whole = Whole-none; births = nothing_below_1; receipts = nothing_below_1; seen = unseen }
