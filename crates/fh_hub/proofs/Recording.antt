@@ -10,7 +10,7 @@ use Rattle.fh_base.specs.declared.rule.Rule.TheVariants.{JournalFull}
 use Rattle.fh_event.specs.Judging.{Judged}
 use Rattle.fh_event.specs.Judging as judging
 use Rattle.fh_hub.specs.Stores.{Parts, Asks, Done, outcomes, too_full}
-use Rattle.fh_hub.specs.World.{World, AsksAll, asked, judged, unless_full, stepped_by, recorded, most_bytes, step, step_at, effective_moment}
+use Rattle.fh_hub.specs.World.{World, AsksAll, asked, judged, room_rule, unless_full, stepped_by, recorded, most_bytes, step, step_at, effective_moment}
 
 -- a command that acts at its own moment
 pub step_is_at : (w : World) (command : Command) (m : ℕ) → m ≤ greatest_moment → w.last ≤ m → step w command m ≡ step_at w command m
@@ -41,3 +41,11 @@ has_room gate size is = by_test (nat_lt most_bytes (gate + 6 + size)) refl is
     by_test : (full : Bool) → nat_lt most_bytes (gate + 6 + size) ≡ full → (if full then Some gate else None) ≡ None → gate + 6 + size ≤ most_bytes
     by_test true test is = absurd (cc)
     by_test false test is = grind (arith, nat_tests, test)
+
+-- a fault of room: the journal is full
+pub full_room : (gate size at : ℕ) → (if nat_lt most_bytes (gate + 6 + size) then Some gate else None) ≡ Some at → room_rule gate size ≡ Some (JournalFull at)
+full_room gate size at is = by_test (nat_lt most_bytes (gate + 6 + size)) is
+  where
+    by_test : (full : Bool) → (if full then Some gate else None) ≡ Some at → (if full then Some (JournalFull gate) else None) ≡ Some (JournalFull at)
+    by_test true is = let same : gate ≡ at = cc in ap (λ k. Some (JournalFull k)) same
+    by_test false is = absurd (cc)

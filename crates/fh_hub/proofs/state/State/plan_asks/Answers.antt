@@ -1,17 +1,19 @@
-use Rattle.std.proofs.Common.{rules, ◌≡◌, ◌+◌, ◌≤◌, ◌∙◌, arith, refl, sym, subst, length, Option, None, ℕ, List, ap}
+use Rattle.std.proofs.Common.{rules, ◌≡◌, ◌+◌, ◌≤◌, ◌∙◌, arith, refl, sym, subst, length, Option, Some, None, ℕ, List, ap}
 use Rattle.std.proofs.lemmas.Grind.{common_steps}
 use Rattle.fh_event.specs.Entries.{entry, IsEntry}
-use Rattle.fh_event.specs.Judging.{Makes}
+use Rattle.fh_event.specs.Judging.{Quiets, Makes}
 use Rattle.fh_queues.specs.Whole.{IsWhole}
 use Rattle.fh_hub.specs.Stores.{Parts, Asks, Done, outcomes, too_full}
 use Rattle.fh_hub.specs.StoreEdits.{parts_of, asks_of, changed, answered}
-use Rattle.fh_hub.specs.World.{World, judged, recorded, most_bytes}
+use Rattle.fh_base.specs.declared.rule.Rule.TheVariants.{JournalFull}
+use Rattle.fh_event.specs.declared.reply.Reply.{Reply}
+use Rattle.fh_hub.specs.World.{World, Quieted, reply_of, room_rule, unless_full, judged, recorded, most_bytes}
 use Rattle.fh_hub.specs.Replay.{replay}
 use Rattle.fh_hub.specs.State.{HubState, world_of, IsFaithful}
 use Rattle.fh_hub.proofs.Spelling.{entry_is}
 use Rattle.fh_hub.proofs.Narrow.{narrow_texts}
 use Rattle.fh_hub.proofs.Sizes.{short_texts, entry_size, HasNarrowTexts}
-use Rattle.fh_hub.proofs.Recording.{made_is_recorded, step_is_at, step_at_asks, has_room}
+use Rattle.fh_hub.proofs.Recording.{made_is_recorded, step_is_at, step_at_asks, has_room, full_room}
 use Rattle.fh_hub.proofs.Told.{whole_state}
 use Rattle.fh_hub.proofs.state.State.plan_asks.Goals as goal
 
@@ -54,3 +56,46 @@ returns-clause-ok c =
         short = rw entered (entry_size m command narrow);
       };
     }
+
+pub returns-then-is_quiet-clause-ok : goal.returns-then-is_quiet-clause-ok
+returns-then-is_quiet-clause-ok c =
+    let w : World = world_of c.args.self.now in
+    let parts : Parts = w.parts in
+    let all : Asks = asks_of c.args.asks.now in
+    let m = c.args.m in
+    let size : ℕ = length (entry m c.args.command.now) in
+    let answer : Done = answered c.in_ok-stores.stores in
+    let done : outcomes parts all m ≡ Quiets answer = grind (arith, common_steps, c.is_quiet.ensures.quiet parts) in
+    let reply : c.reply_of.result ≡ reply_of answer = c.reply_of.ensures ∙ ap reply_of c.into_done.ensures in
+    ap (judged w m size (too_full parts all m)) done ∙ ap (λ (r : Reply). Quieted r) (sym reply)
+
+pub returns-in-Some-clause-err : goal.returns-in-Some-clause-err
+returns-in-Some-clause-err c =
+    let w : World = world_of c.args.self.now in
+    let parts : Parts = w.parts in
+    let all : Asks = asks_of c.args.asks.now in
+    let m = c.args.m in
+    let size : ℕ = length (entry m c.args.command.now) in
+    let done : outcomes parts all m ≡ Makes (changed parts c.in_ok-stores.stores) (answered c.in_ok-stores.stores) = grind (arith, common_steps, c.is_quiet.ensures.loud parts) in
+    let full : too_full parts all m ≡ Some c.in-Some.rule = grind (arith, common_steps) in
+    ap (λ f. judged w m size f (outcomes parts all m)) full ∙ ap (judged w m size (Some c.in-Some.rule)) done
+
+pub returns-in-Some-room_behind-clause-err : goal.returns-in-Some-room_behind-clause-err
+returns-in-Some-room_behind-clause-err c =
+    let w : World = world_of c.args.self.now in
+    let parts : Parts = w.parts in
+    let all : Asks = asks_of c.args.asks.now in
+    let m = c.args.m in
+    let command = c.args.command.now in
+    let size : ℕ = length (entry m command) in
+    let payload : List ℕ = c.in_ok-payload.payload in
+    let after : Parts = changed parts c.in_ok-stores.stores in
+    let answer : Done = answered c.in_ok-stores.stores in
+    let at = c.in-Some-room_behind.length in
+    let done : outcomes parts all m ≡ Makes after answer = grind (arith, common_steps, c.is_quiet.ensures.loud parts) in
+    let unfull : too_full parts all m ≡ None = grind (arith, common_steps) in
+    let entered : payload ≡ entry m command = grind (arith, common_steps) in
+    let room : room_rule w.gate (length payload) ≡ Some (JournalFull at) = full_room w.gate (length payload) at (grind (arith, common_steps)) in
+    let sized : room_rule w.gate size ≡ Some (JournalFull at) = subst (λ (bytes : List ℕ). room_rule w.gate (length bytes) ≡ Some (JournalFull at)) entered room in
+    ap (λ f. judged w m size f (outcomes parts all m)) unfull ∙ ap (judged w m size None) done
+    ∙ ap (λ r. unless_full r (recorded w m size after answer)) sized
