@@ -4,7 +4,8 @@ use Rattle.std.proofs.lemmas.Bool.Decides.{nat_tests}
 use Rattle.std.proofs.lemmas.List.Sums.{sum_by-cons, sum_by_push}
 use Rattle.std.proofs.lemmas.List.Recursion.{found_push_other}
 use Rattle.fh_hub.specs.Replay.{Event}
-use Rattle.fh_hub.specs.Laws.{bears, births}
+use Rattle.fh_hub.specs.Signs.{bears}
+use Rattle.fh_hub.specs.Laws.{births}
 use Rattle.fh_hub.specs.Places.{birth_of}
 
 births-cons : (n : ℕ) (e : Event) (events : List Event) → births n (e ∷ events) ≡ cond (bears n e.reply) 1 0 + births n events

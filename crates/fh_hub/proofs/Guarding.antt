@@ -1,5 +1,5 @@
 -- Each event of a trace guards the messages.
-use Rattle.std.proofs.Common.{◌≡◌, ℕ, List, is_some, refl, sym, ◌∙◌, ap}
+use Rattle.std.proofs.Common.{◌≡◌, ℕ, List, Some, is_some, refl, sym, ◌∙◌, ap}
 use Rattle.std.specs.Prelude.{◌&&◌}
 use Rattle.std.specs.List.{All}
 use Rattle.std.proofs.lemmas.List.Elements.{All-nil, All-push}
@@ -9,55 +9,66 @@ use Rattle.fh_event.specs.declared.reply.Reply.{Reply}
 use Rattle.fh_queues.specs.declared.row.Message.{Message}
 use Rattle.fh_queues.specs.declared.done.QueueDone.{QueueDone}
 use Rattle.fh_queues.specs.declared.done.QueueDone.TheVariants as done
-use Rattle.fh_queues.specs.Rows.{is_visible}
+use Rattle.fh_queues.specs.Rows.{is_visible, row_of}
+use Rattle.fh_queues.specs.Part.{QueuePart, end_of}
+use Rattle.fh_queues.specs.Seen.{Stands, seen_by, seen}
 use Rattle.fh_queues.specs.Receipts.{listed_item, touches}
-use Rattle.fh_queues.proofs.Finding.{is_some-item_of}
-use Rattle.fh_queues.proofs.Receipts.{Stays-outcome, Rises-outcome}
-use Rattle.fh_hub.specs.World.{World, effective_moment, reply_of}
+use Rattle.fh_queues.specs.Tellings.{items_in, lists}
+use Rattle.fh_queues.proofs.Lawful.{is_some-item_of, row_seen, keeps_untouched, raises_receipts}
+use Rattle.fh_hub.specs.World.{World, effective_moment, reply_of_queues}
 use Rattle.fh_hub.specs.Replay.{Entry, Event, trace}
-use Rattle.fh_hub.specs.Places.{lists}
-use Rattle.fh_hub.specs.Guards.{acts_on, GuardsMessages}
+use Rattle.fh_hub.specs.Signs.{signs_of}
+use Rattle.fh_hub.specs.Guards.{GuardsMessages}
 use Rattle.fh_hub.proofs.Steps.{Made, IsKept, event, ask_of, kept_by_all}
-use Rattle.fh_hub.proofs.Tallies.{Tallies, tallies_kept}
-use Rattle.fh_queues.proofs.Accounts.{Accounts-none}
+use Rattle.fh_hub.proofs.Told.{Told, told_kept, told_none, items_as_listed}
 
-lists_as_listed : (n : ℕ) (answer : QueueDone) → is_some (listed_item answer n) ≡ lists n (reply_of answer)
-lists_as_listed n done.Made = refl
-lists_as_listed n done.There = refl
-lists_as_listed n (done.Stored number receipt) = refl
-lists_as_listed n (done.Taken items) = is_some-item_of n items
-lists_as_listed n done.Empty = refl
-lists_as_listed n (done.Updated receipt) = refl
-lists_as_listed n done.Deleted = refl
-lists_as_listed n (done.Cleared count) = refl
-lists_as_listed n done.Swept = refl
+listed_as_lists : (n : ℕ) (answer : QueueDone) → is_some (listed_item answer n) ≡ lists n (items_in answer)
+listed_as_lists n done.Made = refl
+listed_as_lists n done.There = refl
+listed_as_lists n (done.Stored number receipt) = refl
+listed_as_lists n (done.Taken items) = is_some-item_of n items
+listed_as_lists n done.Empty = refl
+listed_as_lists n (done.Updated receipt) = refl
+listed_as_lists n done.Deleted = refl
+listed_as_lists n (done.Cleared count) = refl
+listed_as_lists n done.Swept = refl
 
-touches_as_acts : (m : ℕ) (command : Command) (answer : QueueDone) (row : Message) → touches m (ask_of command) answer row ≡ acts_on m command (reply_of answer) row
-touches_as_acts m (MakeQueue queue) answer row = refl
-touches_as_acts m (Put queue delay ttl text) answer row = refl
-touches_as_acts m (Take queue count hold) answer row = ap (λ among. is_visible queue m row && among) (lists_as_listed row.number answer)
-touches_as_acts m (Update queue number receipt hold text) answer row = refl
-touches_as_acts m (Delete queue number receipt) answer row = refl
-touches_as_acts m (Clear queue) answer row = refl
-touches_as_acts m (Peek queue count) answer row = refl
-touches_as_acts m (Locate number) answer row = refl
+touches_as_told : (rows : List Message) (m : ℕ) (command : Command) (answer : QueueDone) (row : Message) → touches m (ask_of command) answer row ≡ (signs_of rows m command (reply_of_queues answer)).acts_on row
+touches_as_told rows m (MakeQueue queue) answer row = refl
+touches_as_told rows m (Put queue delay ttl text) answer row = refl
+touches_as_told rows m (Take queue count hold) answer row =
+    ap (λ among. is_visible queue m row && among) (listed_as_lists row.number answer ∙ ap (lists row.number) (sym (items_as_listed answer)))
+touches_as_told rows m (Update queue number receipt hold text) answer row = refl
+touches_as_told rows m (Delete queue number receipt) answer row = refl
+touches_as_told rows m (Clear queue) answer row = refl
+touches_as_told rows m (Peek queue count) answer row = refl
+touches_as_told rows m (Locate number) answer row = refl
 
-guards : (events : List Event) (w : World) (command : Command) (now : ℕ) (new : World) (reply : Reply) → Tallies events w → Made w command now new reply → GuardsMessages (event w command now reply new)
-guards events w command now new reply h made = record {
-  untouched = λ row found alive untouched.
-      Stays-outcome _ _ w.queues (ask_of command) (effective_moment w now) (new.queues, made.done) row h made.queues found alive
-      (touches_as_acts (effective_moment w now) command made.done row ∙ ap (λ r. acts_on (effective_moment w now) command r row) (sym made.replies) ∙ untouched);
-  rises = λ n before later was stands. Rises-outcome _ _ w.queues (ask_of command) (effective_moment w now) (new.queues, made.done) n before later h made.queues was stands;
-}
+-- a row is seen
+pub stands_seen : (n : ℕ) (part : QueuePart) (row : Message) → row_of n part.rows ≡ Some row → seen n part ≡ Stands row
+stands_seen n part row found = ap (λ r. seen_by r (end_of n part.ends)) found
+
+guards : (events : List Event) (w : World) (command : Command) (now : ℕ) (new : World) (reply : Reply) → Told events w → Made w command now new reply → GuardsMessages (event w command now reply new)
+guards events w command now new reply h made =
+    let m = effective_moment w now in
+    let part = w.parts.queues in
+    record {
+      untouched = λ row found alive untouched.
+          row_seen row.number new.parts.queues row
+          (keeps_untouched part (ask_of command) m new.parts.queues made.done.queues h.whole made.queues row (stands_seen row.number part row found) alive
+          (touches_as_told part.rows m command made.done.queues row ∙ ap (λ (r : Reply). (signs_of part.rows m command r).acts_on row) (sym made.replies) ∙ untouched));
+      rises = λ n before later was stands.
+          raises_receipts part (ask_of command) m new.parts.queues made.done.queues h.whole made.queues n before later (stands_seen n part before was) (stands_seen n new.parts.queues later stands);
+    }
 
 abbrev Guarded : List Event → World → Type 0
-Guarded events w = Tallies events w × All GuardsMessages events
+Guarded events w = Told events w × All GuardsMessages events
 
 guarded_kept : IsKept Guarded
 guarded_kept events w command now new reply h made = (
-  tallies_kept events w command now new reply h.0 made,
+  told_kept events w command now new reply h.0 made,
   All-push GuardsMessages events (event w command now reply new) h.1 (guards events w command now new reply h.0 made),
 )
 
 pub all_guard : (history : List Entry) → All GuardsMessages (trace history)
-all_guard history = (kept_by_all Guarded guarded_kept (Accounts-none, All-nil GuardsMessages) history).1
+all_guard history = (kept_by_all Guarded guarded_kept (told_none, All-nil GuardsMessages) history).1

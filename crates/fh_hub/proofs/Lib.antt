@@ -2,15 +2,15 @@ pub mod Sizes
 pub mod Crashes
 pub mod Histories
 pub mod Mounted
+pub mod Outcomes
 pub mod Narrow
 pub mod Recording
 pub mod Replays
 pub mod Spelling
 pub mod Steps
-pub mod Tallies
 pub mod Births
-pub mod Holds
 pub mod Told
 pub mod Places
 pub mod Guarding
 pub mod Rising
+pub mod Turns

@@ -1,70 +1,51 @@
--- A command that the queues accept has short texts.
-use Rattle.std.proofs.Common.{◌≡◌, ℕ, ◌≤◌, Bool, true, false, List, [], ◌∷◌, length, Option, Some, None, Ok, refl, sym, subst, arith}
-use Rattle.std.specs.Prelude.{nat_lt, if◌then◌else◌, IfSome}
-use Rattle.std.proofs.lemmas.Bool.Decides.{nat_tests}
+-- A command that the stores accept has short texts.
+use Rattle.std.proofs.Common.{◌≡◌, ℕ, ◌≤◌, List, length, Option, None, refl, sym, ◌∙◌, ap, subst, arith}
+use Rattle.std.specs.Prelude.{IfSome, if◌then◌else◌}
 use Rattle.fh_base.specs.Names.{is_queue_name}
 use Rattle.fh_base.proofs.NameLengths.{queue_name_length}
-use Rattle.fh_base.specs.declared.rule.Rule.TheVariants.{TooLarge, BadName}
+use Rattle.fh_base.specs.declared.rule.Rule.TheVariants.{BadName}
 use Rattle.fh_event.specs.declared.command.Command.{Command}
 use Rattle.fh_event.specs.declared.command.Command.TheVariants.{MakeQueue, Put, Take, Update, Delete, Clear, Peek, Locate}
+use Rattle.fh_event.specs.Judging.{Makes}
+use Rattle.fh_queues.specs.declared.done.QueueDone.{QueueDone}
 use Rattle.fh_queues.specs.Asks.{Ask}
 use Rattle.fh_queues.specs.Asks as asks
 use Rattle.fh_queues.specs.Part.{QueuePart}
-use Rattle.fh_queues.specs.Rules.{text_rule, new_text_rule, ttl_rule, delay_rule, queue_rule, store_rule, range_rule, message_rule, put_rule, update_rule}
-use Rattle.fh_queues.specs.Outcome.{Outcome, outcome, peeked}
-use Rattle.fh_queues.proofs.Ways.{unbroken, unbroken-head}
-use Rattle.fh_hub.specs.World.{Dispatch, Refuses, Asks, where_named, dispatch}
+use Rattle.fh_queues.specs.Outcome.{outcome, peeked}
+use Rattle.fh_queues.specs.Whole.{IsWhole}
+use Rattle.fh_queues.specs.Laws.{HasShortTexts}
+use Rattle.fh_queues.proofs.Lawful.{short_texts}
+use Rattle.fh_hub.specs.Stores.{Parts, Asks, Done, outcomes}
+use Rattle.fh_hub.specs.World.{Asked, Refuses, AsksAll, asked}
+use Rattle.fh_hub.proofs.Outcomes.{outcome_of_queues}
 use Rattle.fh_hub.proofs.Sizes.{HasNarrowTexts}
-use Rattle.fh_hub.proofs.Steps.{peeks_nothing}
+use Rattle.fh_hub.proofs.Steps.{ask_of, asks_as_told, named, peeks_nothing}
 
--- what the queues are asked for had a good name
-record IsNamed (queue : List ℕ) (asks given : Dispatch) : Type 0 where
-  pub name : length queue ≤ 65536
-  pub same : asks ≡ given
+named_short : (queue : List ℕ) (given : Asked) (all : Asks) → (if is_queue_name queue then given else Refuses BadName) ≡ AsksAll all → length queue ≤ 65536
+named_short queue given all is = omega (arith, queue_name_length queue (named queue given all is).good)
 
+<<<<<<< HEAD
 named : (queue : List ℕ) (given : Dispatch) (ask : Ask) → where_named queue given ≡ Asks ask → IsNamed queue (Asks ask) given
 named queue given ask is = by_test (is_queue_name queue) refl is
   where
     by_test : (good : Bool) → is_queue_name queue ≡ good → (if good then given else Refuses BadName) ≡ Asks ask → IsNamed queue (Asks ask) given
     by_test true good is = record { name = omega (arith, queue_name_length queue good); same = cc }
     by_test false good is = absurd (cc)
+=======
+by_command : (parts : Parts) (command : Command) (m : ℕ) (all : Asks) (after : QueuePart) (answer : QueueDone) → asked parts command m ≡ AsksAll all → HasShortTexts parts.queues m (ask_of command) after answer → HasNarrowTexts command
+unfolding asked
+by_command parts (MakeQueue queue) m all after answer asking short = (named_short queue _ all asking, tt)
+by_command parts (Put queue delay ttl text) m all after answer asking short = (named_short queue _ all asking, (tt, (tt, (short, tt))))
+by_command parts (Take queue count hold) m all after answer asking short = (named_short queue _ all asking, (tt, (tt, tt)))
+by_command parts (Update queue number receipt hold text) m all after answer asking short = (named_short queue _ all asking, (tt, (tt, (tt, (short, tt)))))
+by_command parts (Delete queue number receipt) m all after answer asking short = (named_short queue _ all asking, (tt, (tt, tt)))
+by_command parts (Clear queue) m all after answer asking short = (named_short queue _ all asking, tt)
+by_command parts (Peek queue count) m all after answer asking short = absurd (peeks_nothing (peeked parts.queues queue count m) all (sym (named queue _ all asking).same))
+by_command parts (Locate number) m all after answer asking short = absurd (cc)
+>>>>>>> 33c2f0374b460c3ce2cc100b1b11fbdde01b505b
 
-narrow_text : (text : List ℕ) → text_rule text ≡ None → length text ≤ 65536
-narrow_text text is = by_test (nat_lt 65536 (length text)) refl is
-  where
-    by_test : (long : Bool) → nat_lt 65536 (length text) ≡ long → (if long then Some (TooLarge (length text) 65536) else None) ≡ None → length text ≤ 65536
-    by_test true test is = absurd (cc)
-    by_test false test is = grind (arith, nat_tests, test)
-
-narrow_new_text : (text : Option (List ℕ)) → new_text_rule text ≡ None → IfSome text (λ t. length t ≤ 65536)
-narrow_new_text None is = tt
-narrow_new_text (Some text) is = narrow_text text is
-
-put_text : (part : QueuePart) (m : ℕ) (queue : List ℕ) (delay : ℕ) (ttl : Option ℕ) (text : List ℕ) (made : Outcome) → outcome part (asks.Put queue delay ttl text None) m ≡ Ok made → length text ≤ 65536
-unfolding outcome
-put_text part m queue delay ttl text made is =
-    let none = unbroken (put_rule part m queue delay ttl text) _ made is in
-    narrow_text text (unbroken-head (text_rule text) (ttl_rule ttl ∷ delay_rule delay ttl ∷ queue_rule part queue ∷ store_rule part m ∷ []) none).0
-
-update_text : (part : QueuePart) (m : ℕ) (queue : List ℕ) (number receipt hold : ℕ) (text : Option (List ℕ)) (made : Outcome) → outcome part (asks.Update queue number receipt hold text) m ≡ Ok made → IfSome text (λ t. length t ≤ 65536)
-unfolding outcome
-update_text part m queue number receipt hold text made is =
-    let none = unbroken (update_rule part m queue number receipt hold text) _ made is in
-    narrow_new_text text (unbroken-head (new_text_rule text) (range_rule hold 0 604800 ∷ message_rule part m queue number receipt ∷ []) none).0
-
-pub narrow_texts : (part : QueuePart) (command : Command) (m : ℕ) (ask : Ask) (made : Outcome) → dispatch part command m ≡ Asks ask → outcome part ask m ≡ Ok made → HasNarrowTexts command
-unfolding dispatch
-narrow_texts part (MakeQueue queue) m ask made asking done = ((named queue _ ask asking).name, tt)
-narrow_texts part (Put queue delay ttl text) m ask made asking done =
-    let is = named queue _ ask asking in
-    let same : ask ≡ asks.Put queue delay ttl text None = cc in
-    (is.name, (tt, (tt, (put_text part m queue delay ttl text made (subst (λ (a : Ask). outcome part a m ≡ Ok made) same done), tt))))
-narrow_texts part (Take queue count hold) m ask made asking done = ((named queue _ ask asking).name, (tt, (tt, tt)))
-narrow_texts part (Update queue number receipt hold text) m ask made asking done =
-    let is = named queue _ ask asking in
-    let same : ask ≡ asks.Update queue number receipt hold text = cc in
-    (is.name, (tt, (tt, (tt, (update_text part m queue number receipt hold text made (subst (λ (a : Ask). outcome part a m ≡ Ok made) same done), tt)))))
-narrow_texts part (Delete queue number receipt) m ask made asking done = ((named queue _ ask asking).name, (tt, (tt, tt)))
-narrow_texts part (Clear queue) m ask made asking done = ((named queue _ ask asking).name, tt)
-narrow_texts part (Peek queue count) m ask made asking done = absurd (peeks_nothing (peeked part queue count m) ask (sym (named queue _ ask asking).same))
-narrow_texts part (Locate number) m ask made asking done = absurd (cc)
+pub narrow_texts : (parts : Parts) (command : Command) (m : ℕ) (all : Asks) (after : Parts) (done : Done) → IsWhole parts.queues → asked parts command m ≡ AsksAll all → outcomes parts all m ≡ Makes after done → HasNarrowTexts command
+narrow_texts parts command m all after done whole asking is =
+    let did = outcome_of_queues parts all m after done is in
+    let mine : outcome parts.queues (ask_of command) m ≡ Makes after.queues done.queues = ap (λ (a : Ask). outcome parts.queues a m) (sym (asks_as_told parts command m all asking)) ∙ did in
+    by_command parts command m all after.queues done.queues asking (short_texts parts.queues (ask_of command) m after.queues done.queues whole mine)

@@ -6,7 +6,7 @@ use Rattle.fh_event.specs.declared.reply.Reply.{Reply}
 use Rattle.fh_event.specs.Entries.{IsEntry}
 use Rattle.fh_journal.specs.Journal.{opened, frame}
 use Rattle.fh_journal.proofs.Bytes.{opened-push}
-use Rattle.fh_queues.specs.Outcome.{Outcome}
+use Rattle.fh_hub.specs.Stores.{Parts, Done}
 use Rattle.fh_hub.specs.World.{World, empty, Recorded, step, world_with, reply_of}
 use Rattle.fh_hub.specs.Replay.{Entry, bytes_of, payloads_of, replay_from, replay, after, world_after, IsWritten, IsNext, IsLegalFrom, IsLegal}
 use Rattle.fh_hub.specs.State.{HubState, world_of, IsFaithful, IsPlanned}
@@ -41,12 +41,12 @@ gate_push payloads payload =
     ∙ (let sized = length-append (to_be_bytes w32 (length payload)) payload in omega (arith, sized))
 
 -- the history of a faithful state goes on by a planned entry
-pub legal_planned : (s : HubState) (made : Outcome) (payload : List ℕ) (e : Entry) → IsFaithful s → IsPlanned s made payload e → IsLegal (s.history ++ e ∷ [])
-legal_planned s made payload e faithful planned =
+pub legal_planned : (s : HubState) (made : Parts) (done : Done) (payload : List ℕ) (e : Entry) → IsFaithful s → IsPlanned s made done payload e → IsLegal (s.history ++ e ∷ [])
+legal_planned s made done payload e faithful planned =
     legal_push s.history e faithful.legal (is_written payload e planned.spelled)
     (subst (λ (w : World). IsNext w e) faithful.world (record {
-      new = world_with (world_of s) made.0 e.moment (length payload);
-      reply = reply_of made.1;
+      new = world_with (world_of s) made e.moment (length payload);
+      reply = reply_of done;
       records = planned.steps;
       own_moment = planned.own_moment;
     }))

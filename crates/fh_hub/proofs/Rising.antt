@@ -3,18 +3,22 @@ use Rattle.std.proofs.Common.{◌≡◌, ℕ, ◌≤◌, ◌<◌, inl, inr, List
 use Rattle.std.specs.List.{All}
 use Rattle.std.proofs.lemmas.List.Elements.{All-nil, All-cons, All-append}
 use Rattle.fh_event.specs.declared.command.Command.{Command}
+use Rattle.fh_event.specs.declared.reply.Reply.{Reply}
 use Rattle.fh_queues.specs.declared.row.Message.{Message}
 use Rattle.fh_queues.specs.Rows.{row_of}
 use Rattle.fh_queues.specs.Receipts.{Rises}
-use Rattle.fh_queues.proofs.Finding.{standing-row_of}
-use Rattle.fh_queues.proofs.Receipts.{Rises-outcome}
+use Rattle.fh_queues.specs.declared.done.Ending.{Ending}
+use Rattle.fh_queues.specs.Part.{end_of}
+use Rattle.fh_queues.specs.Seen.{Unborn, Stands, Ended, seen_by, seen}
+use Rattle.fh_queues.specs.Goings.{goes_on}
+use Rattle.fh_queues.proofs.Lawful.{goes_as_answered, raises_receipts}
 use Rattle.fh_hub.specs.World.{World, empty, Stepped, Refused, Read, Quieted, Recorded, step, effective_moment}
 use Rattle.fh_hub.specs.Replay.{Entry, Event, event_of, trace_from, trace, after, replay_from, replay, IsLegalFrom, IsLegal}
 use Rattle.fh_hub.specs.Laws.{births}
 use Rattle.fh_hub.specs.Guards.{RisesOver, HasOwnMoment}
-use Rattle.fh_hub.proofs.Steps.{IsKept, event, ask_of, kept_from}
-use Rattle.fh_hub.proofs.Tallies.{Tallies, tallies_kept, tallies, births-push}
-use Rattle.fh_hub.proofs.Holds.{comes}
+use Rattle.fh_hub.proofs.Steps.{Made, IsKept, event, ask_of, kept_from}
+use Rattle.fh_hub.proofs.Told.{Told, IsSeenBy, told_kept, told, born_stays}
+use Rattle.fh_hub.proofs.Guarding.{stands_seen}
 
 replay_from-append : (w : World) (history entries : List Entry) → replay_from w (history ++ entries) ≡ replay_from (replay_from w history) entries
 replay_from-append w [] entries = refl
@@ -26,36 +30,52 @@ rises_on first second third (inl same) (inr more) = inr (subst (λ (r : Message)
 rises_on first second third (inr more) (inl again) = inr (subst (λ (r : Message). first.receipt < r.receipt) (sym again) more)
 rises_on first second third (inr more) (inr then_more) = inr (omega (arith, more, then_more))
 
--- the message was born, and its row has risen from this one
+-- the row of the message has risen from this one
 record HasRisen (n : ℕ) (before : Message) (events : List Event) (w : World) : Type 0 where
-  pub tallies : Tallies events w
-  pub born : 1 ≤ births n events
-  pub rises : (later : Message) → row_of n w.queues.rows ≡ Some later → Rises before later
+  pub told : Told events w
+  pub born : births n events ≡ 1
+  pub rises : (later : Message) → row_of n w.parts.queues.rows ≡ Some later → Rises before later
+
+-- a message that has no row doesn't get one again
+gone_stays : (n : ℕ) (before : Message) (events : List Event) (w : World) (command : Command) (now : ℕ) (new : World) (reply : Reply) (later : Message)
+    → HasRisen n before events w → Made w command now new reply → row_of n new.parts.queues.rows ≡ Some later → row_of n w.parts.queues.rows ≡ None → ⊥
+gone_stays n before events w command now new reply later h made found none = by_end (end_of n w.parts.queues.ends) refl
+  where
+    goes : goes_on (effective_moment w now) (ask_of command) made.done.queues n (seen n w.parts.queues) ≡ Stands later
+    goes = sym (goes_as_answered w.parts.queues (ask_of command) (effective_moment w now) new.parts.queues made.done.queues h.told.whole made.queues n) ∙ stands_seen n new.parts.queues later found
+
+    by_end : (end : Option Ending) → end_of n w.parts.queues.ends ≡ end → ⊥
+    by_end None is =
+        let unborn : seen n w.parts.queues ≡ Unborn = ap (λ r. seen_by r (end_of n w.parts.queues.ends)) none ∙ ap (seen_by None) is in
+        let never = subst (IsSeenBy n events w.last) unborn (h.told.seen n) in
+        omega (arith, h.born, never.0)
+    by_end (Some ending) is =
+        let gone : seen n w.parts.queues ≡ Ended ending = ap (λ r. seen_by r (end_of n w.parts.queues.ends)) none ∙ ap (seen_by None) is in
+        let stays : Ended ending ≡ Stands later = sym (ap (goes_on (effective_moment w now) (ask_of command) made.done.queues n) gone) ∙ goes in
+        cc
 
 risen_kept : (n : ℕ) (before : Message) → IsKept (HasRisen n before)
 risen_kept n before events w command now new reply h made = record {
-  tallies = tallies_kept events w command now new reply h.tallies made;
-  born = omega (arith, h.born, births-push n events (event w command now reply new) made.done made.replies);
-  rises = λ later found. by_row later found (row_of n w.queues.rows) refl;
+  told = told_kept events w command now new reply h.told made;
+  born = born_stays events w command now new reply h.told made n h.born;
+  rises = λ later found. by_row later found (row_of n w.parts.queues.rows) refl;
 }
   where
-    by_row : (later : Message) → row_of n new.queues.rows ≡ Some later → (was : Option Message) → row_of n w.queues.rows ≡ was → Rises before later
-    by_row later found None none =
-        let is = comes w.queues (ask_of command) (effective_moment w now) (new.queues, made.done) n later made.queues none found in
-        absurd (omega (arith, h.born, h.tallies.fresh n (omega (arith, is.number))))
+    by_row : (later : Message) → row_of n new.parts.queues.rows ≡ Some later → (was : Option Message) → row_of n w.parts.queues.rows ≡ was → Rises before later
+    by_row later found None none = absurd (gone_stays n before events w command now new reply later h made found none)
     by_row later found (Some mid) was =
         rises_on before mid later (h.rises mid was)
-        (Rises-outcome _ _ w.queues (ask_of command) (effective_moment w now) (new.queues, made.done) n mid later h.tallies made.queues was found)
+        (raises_receipts w.parts.queues (ask_of command) (effective_moment w now) new.parts.queues made.done.queues h.told.whole made.queues n mid later (stands_seen n w.parts.queues mid was) (stands_seen n new.parts.queues later found))
 
 pub rises_over : (history entries : List Entry) → RisesOver history entries
 rises_over history entries n before later was found =
     let begins : HasRisen n before (trace history) (replay history) = record {
-      tallies = tallies history;
-      born = omega (arith, (tallies history).places n, standing-row_of n (replay history).queues.rows before was);
+      told = told history;
+      born = (subst (IsSeenBy n (trace history) (replay history).last) (stands_seen n (replay history).parts.queues before was) ((told history).seen n)).born;
       rises = λ same found. inl (cc);
     } in
     (kept_from (HasRisen n before) (risen_kept n before) entries (trace history) (replay history) begins).rises later
-    (ap (λ (w : World). row_of n w.queues.rows) (sym (replay_from-append empty history entries)) ∙ found)
+    (ap (λ (w : World). row_of n w.parts.queues.rows) (sym (replay_from-append empty history entries)) ∙ found)
 
 own_by_step : (w : World) (command : Command) (m : ℕ) (s : Stepped) → w.last ≤ m → All HasOwnMoment (event_of w command m s)
 own_by_step w command m (Refused rule) own = All-nil HasOwnMoment

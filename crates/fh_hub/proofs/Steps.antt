@@ -1,22 +1,24 @@
 -- A recorded step, taken apart, and what holds of all histories because each recorded step keeps it.
-use Rattle.std.proofs.Common.{◌≡◌, ℕ, ◌+◌, Bool, true, false, List, [], ◌∷◌, ◌++◌, None, Ok, length, refl, sym, ◌∙◌, ap, subst, append_assoc, append-nil}
+use Rattle.std.proofs.Common.{◌≡◌, ℕ, ◌+◌, Bool, true, false, List, [], ◌∷◌, ◌++◌, Option, Some, None, Ok, length, refl, sym, ◌∙◌, ap, subst, append_assoc, append-nil}
 use Rattle.std.specs.Prelude.{nat_le, nat_lt, if◌then◌else◌, Result, Err}
 use Rattle.fh_base.specs.Moments.{greatest_moment}
 use Rattle.fh_base.specs.Names.{is_queue_name}
 use Rattle.fh_base.specs.declared.rule.Rule.{Rule}
-use Rattle.fh_base.specs.declared.rule.Rule.TheVariants.{MomentTooLate, JournalFull, BadName}
+use Rattle.fh_base.specs.declared.rule.Rule.TheVariants.{MomentTooLate, BadName}
 use Rattle.fh_event.specs.declared.command.Command.{Command}
 use Rattle.fh_event.specs.declared.command.Command.TheVariants.{MakeQueue, Put, Take, Update, Delete, Clear, Peek, Locate}
 use Rattle.fh_event.specs.declared.reply.Item.{Item}
 use Rattle.fh_event.specs.declared.reply.Reply.{Reply}
 use Rattle.fh_event.specs.Entries.{entry}
-use Rattle.fh_queues.specs.declared.done.QueueDone.{QueueDone}
+use Rattle.fh_event.specs.Judging.{Judged}
+use Rattle.fh_event.specs.Judging as judging
 use Rattle.fh_queues.specs.Asks.{Ask}
 use Rattle.fh_queues.specs.Asks as asks
-use Rattle.fh_queues.specs.Part.{QueuePart}
-use Rattle.fh_queues.specs.Outcome.{Outcome, outcome, peeked, is_quiet}
-use Rattle.fh_hub.specs.World.{World, empty, Stepped, Refused, Read, Quieted, Recorded, Dispatch, Refuses, Reads, Asks, where_named, reads_items, dispatch, reply_of, most_bytes, world_with, recorded, unless_full, unless_refused, stepped_by, step, step_at, effective_moment}
+use Rattle.fh_queues.specs.Outcome.{outcome, peeked}
+use Rattle.fh_hub.specs.Stores.{Parts, Asks, Done, outcomes, too_full}
+use Rattle.fh_hub.specs.World.{World, empty, Stepped, Refused, Read, Quieted, Recorded, Asked, Refuses, Reads, AsksAll, reads_items, asked_of, asked, reply_of, room_rule, world_with, recorded, unless_full, judged, stepped_by, step, step_at, effective_moment}
 use Rattle.fh_hub.specs.Replay.{Entry, Event, world_after, after, replay_from, replay, event_of, trace_from, trace}
+use Rattle.fh_hub.proofs.Outcomes.{outcome_of_queues}
 
 -- what a command asks of the queues, where it asks anything
 abbrev pub ask_of : Command → Ask
@@ -29,71 +31,77 @@ ask_of (Clear queue) = asks.Clear queue
 ask_of (Peek queue count) = asks.Sweep
 ask_of (Locate number) = asks.Sweep
 
--- what the queues did in a recorded step
+-- what the stores did in a recorded step
 pub record Made (w : World) (command : Command) (now : ℕ) (new : World) (reply : Reply) : Type 0 where
-  pub done : QueueDone
-  pub queues : outcome w.queues (ask_of command) (effective_moment w now) ≡ Ok (new.queues, done)
-  pub loud : is_quiet done ≡ false
+  pub done : Done
+  pub queues : outcome w.parts.queues (ask_of command) (effective_moment w now) ≡ judging.Makes new.parts.queues done.queues
   pub replies : reply ≡ reply_of done
   pub last : new.last ≡ effective_moment w now
 
-named : (queue : List ℕ) (given : Dispatch) (ask : Ask) → where_named queue given ≡ Asks ask → given ≡ Asks ask
-named queue given ask is = by_test (is_queue_name queue) is
+-- what is asked had a good name
+pub record IsNamed (queue : List ℕ) (all : Asks) (given : Asked) : Type 0 where
+  pub good : is_queue_name queue ≡ true
+  pub same : AsksAll all ≡ given
+
+pub named : (queue : List ℕ) (given : Asked) (all : Asks) → (if is_queue_name queue then given else Refuses BadName) ≡ AsksAll all → IsNamed queue all given
+named queue given all is = by_test (is_queue_name queue) refl is
   where
-    by_test : (good : Bool) → (if good then given else Refuses BadName) ≡ Asks ask → given ≡ Asks ask
-    by_test true is = is
-    by_test false is = absurd (cc)
+    by_test : (good : Bool) → is_queue_name queue ≡ good → (if good then given else Refuses BadName) ≡ AsksAll all → IsNamed queue all given
+    by_test true good is = record { good = good; same = sym is }
+    by_test false good is = absurd (cc)
 
 -- a peek asks the queues for nothing
-pub peeks_nothing : (found : Result (List Item) Rule) (ask : Ask) → reads_items found ≡ Asks ask → ⊥
-peeks_nothing (Ok items) ask is = cc
-peeks_nothing (Err rule) ask is = cc
+pub peeks_nothing : (found : Result (List Item) Rule) (all : Asks) → reads_items found ≡ AsksAll all → ⊥
+peeks_nothing (Ok items) all is = cc
+peeks_nothing (Err rule) all is = cc
 
-asks_as_told : (part : QueuePart) (command : Command) (m : ℕ) (ask : Ask) → dispatch part command m ≡ Asks ask → ask_of command ≡ ask
-unfolding dispatch
-asks_as_told part (MakeQueue queue) m ask is = let same = named queue (Asks (asks.Make queue)) ask is in cc
-asks_as_told part (Put queue delay ttl text) m ask is = let same = named queue (Asks (asks.Put queue delay ttl text None)) ask is in cc
-asks_as_told part (Take queue count hold) m ask is = let same = named queue (Asks (asks.Take queue count hold)) ask is in cc
-asks_as_told part (Update queue number receipt hold text) m ask is = let same = named queue (Asks (asks.Update queue number receipt hold text)) ask is in cc
-asks_as_told part (Delete queue number receipt) m ask is = let same = named queue (Asks (asks.Delete queue number receipt)) ask is in cc
-asks_as_told part (Clear queue) m ask is = let same = named queue (Asks (asks.Clear queue)) ask is in cc
-asks_as_told part (Peek queue count) m ask is = absurd (peeks_nothing (peeked part queue count m) ask (named queue (reads_items (peeked part queue count m)) ask is))
-asks_as_told part (Locate number) m ask is = absurd (cc)
+same_ask : (ask : Ask) (all : Asks) → AsksAll all ≡ AsksAll (record { queues = ask }) → all.queues ≡ ask
+same_ask ask all is = let same : all ≡ record { queues = ask } = cc in ap (λ (a : Asks). a.queues) same
+
+pub asks_as_told : (parts : Parts) (command : Command) (m : ℕ) (all : Asks) → asked parts command m ≡ AsksAll all → all.queues ≡ ask_of command
+unfolding asked
+asks_as_told parts (MakeQueue queue) m all is = same_ask (asks.Make queue) all (named queue _ all is).same
+asks_as_told parts (Put queue delay ttl text) m all is = same_ask (asks.Put queue delay ttl text None) all (named queue _ all is).same
+asks_as_told parts (Take queue count hold) m all is = same_ask (asks.Take queue count hold) all (named queue _ all is).same
+asks_as_told parts (Update queue number receipt hold text) m all is = same_ask (asks.Update queue number receipt hold text) all (named queue _ all is).same
+asks_as_told parts (Delete queue number receipt) m all is = same_ask (asks.Delete queue number receipt) all (named queue _ all is).same
+asks_as_told parts (Clear queue) m all is = same_ask (asks.Clear queue) all (named queue _ all is).same
+asks_as_told parts (Peek queue count) m all is = absurd (peeks_nothing (peeked parts.queues queue count m) all (sym (named queue _ all is).same))
+asks_as_told parts (Locate number) m all is = absurd (cc)
 
 module _ (w : World) (command : Command) (now : ℕ) (new : World) (reply : Reply) where
   abbrev m : ℕ
   m = effective_moment w now
 
-  from_unless_full : (size : ℕ) (made : Outcome) (full : Bool) → outcome w.queues (ask_of command) m ≡ Ok made → is_quiet made.1 ≡ false → (if full then Refused (JournalFull w.gate) else recorded w m size made) ≡ Recorded new reply → Made w command now new reply
-  from_unless_full size made true makes loud is = absurd (cc)
-  from_unless_full size made false makes loud is =
-      let new_is : world_with w made.0 m size ≡ new = cc in
-      let reply_is : reply_of made.1 ≡ reply = cc in
+  from_room : (full room : Option Rule) (stepped : Stepped) → unless_full full (unless_full room stepped) ≡ Recorded new reply → stepped ≡ Recorded new reply
+  from_room None None stepped is = is
+  from_room None (Some rule) stepped is = absurd (cc)
+  from_room (Some rule) room stepped is = absurd (cc)
+
+  from_judged : (size : ℕ) (full : Option Rule) (all : Asks) (found : Judged Parts Done) → all.queues ≡ ask_of command → outcomes w.parts all m ≡ found → judged w m size full found ≡ Recorded new reply → Made w command now new reply
+  from_judged size full all (judging.Refuses rule) asking makes is = absurd (cc)
+  from_judged size full all (judging.Quiets answer) asking makes is = absurd (cc)
+  from_judged size full all (judging.Makes parts answer) asking makes is =
+      let stepped : recorded w m size parts answer ≡ Recorded new reply = from_room full (room_rule w.gate size) _ is in
+      let new_is : world_with w parts m size ≡ new = cc in
+      let reply_is : reply_of answer ≡ reply = cc in
+      let did = outcome_of_queues w.parts all m parts answer makes in
       record {
-        done = made.1;
-        queues = makes ∙ ap (λ (x : World). Ok (x.queues, made.1)) new_is;
-        loud = loud;
+        done = answer;
+        queues = ap (λ (a : Ask). outcome w.parts.queues a m) (sym asking) ∙ did ∙ ap (λ (x : World). judging.Makes x.parts.queues answer.queues) new_is;
         replies = sym reply_is;
         last = sym (ap (λ (x : World). x.last) new_is);
       }
 
-  from_unless_quiet : (size : ℕ) (made : Outcome) (quiet : Bool) → outcome w.queues (ask_of command) m ≡ Ok made → is_quiet made.1 ≡ quiet → (if quiet then Quieted (reply_of made.1) else unless_full w m size made) ≡ Recorded new reply → Made w command now new reply
-  from_unless_quiet size made true makes loud is = absurd (cc)
-  from_unless_quiet size made false makes loud is = from_unless_full size made (nat_lt most_bytes (w.gate + 6 + size)) makes loud is
-
-  from_unless_refused : (size : ℕ) (found : Result Outcome Rule) → outcome w.queues (ask_of command) m ≡ found → unless_refused w m size found ≡ Recorded new reply → Made w command now new reply
-  from_unless_refused size (Err rule) makes is = absurd (cc)
-  from_unless_refused size (Ok made) makes is = from_unless_quiet size made (is_quiet made.1) makes refl is
-
-  from_stepped_by : (size : ℕ) (a : Dispatch) → dispatch w.queues command m ≡ a → stepped_by w m size a ≡ Recorded new reply → Made w command now new reply
+  from_stepped_by : (size : ℕ) (a : Asked) → asked w.parts command m ≡ a → stepped_by w m size a ≡ Recorded new reply → Made w command now new reply
   from_stepped_by size (Refuses rule) asking is = absurd (cc)
   from_stepped_by size (Reads r) asking is = absurd (cc)
-  from_stepped_by size (Asks ask) asking is =
-      from_unless_refused size (outcome w.queues ask m) (ap (λ (a : Ask). outcome w.queues a m) (asks_as_told w.queues command m ask asking)) is
+  from_stepped_by size (AsksAll all) asking is =
+      from_judged size (too_full w.parts all m) all (outcomes w.parts all m) (asks_as_told w.parts command m all asking) refl is
 
   from_timed : (timely : Bool) → (if timely then step_at w command m else Refused MomentTooLate) ≡ Recorded new reply → Made w command now new reply
   unfolding step_at
-  from_timed true is = from_stepped_by (length (entry m command)) (dispatch w.queues command m) refl is
+  from_timed true is = from_stepped_by (length (entry m command)) (asked w.parts command m) refl is
   from_timed false is = absurd (cc)
 
   pub made : step w command now ≡ Recorded new reply → Made w command now new reply

@@ -1,79 +1,155 @@
 -- What the rows and ends of a world say of its messages is what the events of its trace say.
-use Rattle.std.proofs.Common.{◌≡◌, ℕ, ◌+◌, ◌≤◌, Bool, true, false, List, [], ◌∷◌, ◌++◌, Option, Some, None, refl, sym, ◌∙◌, ap, subst, arith}
-use Rattle.std.specs.Prelude.{◌==◌, ◌&&◌, ◌||◌}
+use Rattle.std.proofs.Common.{◌≡◌, ◌⊎◌, inl, inr, ℕ, ◌+◌, ◌≤◌, Bool, true, false, cond, List, [], ◌∷◌, ◌++◌, Option, Some, None, refl, sym, ◌∙◌, ap, subst, arith}
+use Rattle.std.specs.Prelude.{◌==◌, ◌&&◌, ◌||◌, nat_le, nat_lt, not, if◌then◌else◌}
 use Rattle.std.specs.List.{list_any}
 use Rattle.std.proofs.lemmas.Bool.Decides.{nat_tests}
-use Rattle.std.proofs.lemmas.List.Sums.{fold_push}
+use Rattle.std.proofs.lemmas.List.Sums.{fold_push, sum_by_push}
 use Rattle.std.proofs.lemmas.List.Recursion.{or_push}
 use Rattle.fh_event.specs.declared.command.Command.{Command}
 use Rattle.fh_event.specs.declared.command.Command.TheVariants.{MakeQueue, Put, Take, Update, Delete, Clear, Peek, Locate}
+use Rattle.fh_event.specs.declared.reply.Item.{Item}
 use Rattle.fh_event.specs.declared.reply.Reply.{Reply}
 use Rattle.fh_queues.specs.declared.row.Message.{Message}
-use Rattle.fh_queues.specs.declared.done.End.{End}
+use Rattle.fh_queues.specs.declared.done.QueueDone.{QueueDone}
+use Rattle.fh_queues.specs.declared.done.QueueDone.TheVariants as done
+use Rattle.fh_queues.specs.declared.done.Ending.{Ending}
+use Rattle.fh_queues.specs.declared.done.Ending.TheVariants.{Deleted, Completed, Moved, Expired}
+use Rattle.fh_queues.specs.Asks.{Ask}
 use Rattle.fh_queues.specs.Rows.{is_before, is_live, is_dead, row_of}
-use Rattle.fh_queues.specs.Part.{QueuePart}
-use Rattle.fh_queues.specs.Accounts.{standing, gone}
-use Rattle.fh_queues.specs.Places.{end_of}
-use Rattle.fh_queues.specs.Ends.{is_deletion, is_expiry, passes, was_deleted, was_expired, deletes, lapses}
-use Rattle.fh_queues.proofs.Standing.{standing-cons, gone-append}
-use Rattle.fh_queues.proofs.Finding.{row_of-number, standing-row_of, standing-none}
-use Rattle.fh_queues.proofs.Receipts.{one_row}
-use Rattle.fh_queues.proofs.Ends.{deletions, expiries, so_ended-append, gone-end_of, Ends-outcome, was_deleted-outcome, was_expired-outcome}
-use Rattle.fh_queues.proofs.Acts.{Acts-outcome}
-use Rattle.fh_hub.specs.World.{World, effective_moment}
+use Rattle.fh_queues.specs.Part.{QueuePart, no_queues, end_of}
+use Rattle.fh_queues.specs.Outcome.{after}
+use Rattle.fh_queues.specs.Seen.{Seen, Unborn, Stands, Ended, seen_by, seen}
+use Rattle.fh_queues.specs.Whole.{IsWhole}
+use Rattle.fh_queues.specs.Receipts.{born, given}
+use Rattle.fh_queues.specs.Goings.{answered, deletes, newly, goes_on}
+use Rattle.fh_queues.specs.Tellings.{items_in, lists, own_hold, newer, hold_given, queue_given, expiry_given, removes, IsNew, TellsOfMessages}
+use Rattle.fh_queues.proofs.Lawful.{Whole-none, Whole-outcome, row_seen, goes_as_answered, gives_numbers, gives_receipts, moves_little, tells}
+use Rattle.fh_hub.specs.World.{World, empty, effective_moment, reply_of, reply_of_queues}
 use Rattle.fh_hub.specs.Replay.{Entry, Event, trace, replay}
-use Rattle.fh_hub.specs.Laws.{bears, births}
-use Rattle.fh_hub.specs.Places.{birth_of, expiry_by, queue_by, expiry_of, queue_of, takes_out, removes, hold_by, hold_of, newer, last_hold, was_removed}
-use Rattle.fh_hub.proofs.Steps.{Made, event, ask_of, kept_by_all}
-use Rattle.fh_hub.proofs.Tallies.{Tallies, tallies_kept, births-push}
-use Rattle.fh_queues.proofs.Accounts.{Accounts-none}
+use Rattle.fh_hub.specs.Signs.{signs_of, signs, items_of, gives, bears}
+use Rattle.fh_hub.specs.State.{HubState, IsFaithful}
+use Rattle.fh_hub.specs.Laws.{births, receipts}
+use Rattle.fh_hub.specs.Places.{birth_of, expiry_by, queue_by, expiry_of, queue_of, last_hold, was_removed}
+use Rattle.fh_hub.proofs.Steps.{Made, IsKept, event, ask_of, kept_by_all}
 use Rattle.fh_hub.proofs.Births.{birth_now, birth_then}
-use Rattle.fh_hub.proofs.Holds.{hold_asked, hold_as_asked, expiry_as_asked, queue_as_asked, own_hold, goes_on, comes, holds_none}
+
+-- once for each number from 1 on and below the next one
+abbrev pub once_below : ℕ → ℕ → ℕ
+once_below next k = if nat_le 1 k && nat_lt k next then 1 else 0
 
 -- the row says of its message what the events say
 pub record IsTold (n : ℕ) (events : List Event) (row : Message) : Type 0 where
+  pub born : births n events ≡ 1
   pub queue : row.queue ≡ queue_of n events
   pub expiry : row.expiry ≡ expiry_of n events
   pub hold : own_hold row ≡ last_hold n events
+  pub stays : was_removed n events ≡ false
+
+pub record HasExpired (n : ℕ) (events : List Event) (last : ℕ) : Type 0 where
+  pub born : births n events ≡ 1
+  pub over : is_before last (expiry_of n events) ≡ false
+  pub stays : was_removed n events ≡ false
+
+-- what is seen of a message is what the events say
+abbrev pub IsSeenBy : ℕ → List Event → ℕ → Seen → Type 0
+IsSeenBy n events last Unborn =
+    (births n events ≡ 0) × (last_hold n events ≡ None) × (was_removed n events ≡ false)
+IsSeenBy n events last (Stands row) = IsTold n events row
+IsSeenBy n events last (Ended Deleted) = (births n events ≡ 1) × (was_removed n events ≡ true)
+IsSeenBy n events last (Ended (Completed invocation)) = ⊥
+IsSeenBy n events last (Ended (Moved copy)) = ⊥
+IsSeenBy n events last (Ended Expired) = HasExpired n events last
 
 pub record Told (events : List Event) (w : World) : Type 0 where
-  pub tallies : Tallies events w
-  pub removed : (n : ℕ) → was_removed n events ≡ was_deleted n w.queues.ends
-  pub kinds : (n : ℕ) → gone n w.queues.ends ≡ deletions n w.queues.ends + expiries n w.queues.ends
-  pub rows : (n : ℕ) (row : Message) → row_of n w.queues.rows ≡ Some row → IsTold n events row
-  pub expired : (n : ℕ) → was_expired n w.queues.ends ≡ true → is_before w.last (expiry_of n events) ≡ false
-  pub unheld : (n : ℕ) → births n events ≡ 0 → last_hold n events ≡ None
+  pub whole : IsWhole w.parts.queues
+  pub births : (n : ℕ) → births n events ≡ once_below w.parts.queues.next_number n
+  pub receipts : (k : ℕ) → receipts k events ≡ once_below w.parts.queues.next_receipt k
+  pub seen : (n : ℕ) → IsSeenBy n events w.last (seen n w.parts.queues)
 
-takes_out_as_asked : (n : ℕ) (part : QueuePart) (m : ℕ) (command : Command) → takes_out n part.rows m command ≡ deletes n part m (ask_of command)
-takes_out_as_asked n part m (MakeQueue queue) = refl
-takes_out_as_asked n part m (Put queue delay ttl text) = refl
-takes_out_as_asked n part m (Take queue count hold) = refl
-takes_out_as_asked n part m (Update queue number receipt hold text) = refl
-takes_out_as_asked n part m (Delete queue number receipt) = refl
-takes_out_as_asked n part m (Clear queue) = refl
-takes_out_as_asked n part m (Peek queue count) = refl
-takes_out_as_asked n part m (Locate number) = refl
+-- a reply gives out and lists what the queues did
+bears_as_born : (n : ℕ) (answer : QueueDone) → bears n (reply_of_queues answer) ≡ born n answer
+bears_as_born n done.Made = refl
+bears_as_born n done.There = refl
+bears_as_born n (done.Stored number receipt) = refl
+bears_as_born n (done.Taken items) = refl
+bears_as_born n done.Empty = refl
+bears_as_born n (done.Updated receipt) = refl
+bears_as_born n done.Deleted = refl
+bears_as_born n (done.Cleared count) = refl
+bears_as_born n done.Swept = refl
+
+gives_as_given : (k : ℕ) (answer : QueueDone) → gives k (reply_of_queues answer) ≡ given k answer
+gives_as_given k done.Made = refl
+gives_as_given k done.There = refl
+gives_as_given k (done.Stored number receipt) = refl
+gives_as_given k (done.Taken items) = refl
+gives_as_given k done.Empty = refl
+gives_as_given k (done.Updated receipt) = refl
+gives_as_given k done.Deleted = refl
+gives_as_given k (done.Cleared count) = refl
+gives_as_given k done.Swept = refl
+
+pub items_as_listed : (answer : QueueDone) → items_of (reply_of_queues answer) ≡ items_in answer
+items_as_listed done.Made = refl
+items_as_listed done.There = refl
+items_as_listed (done.Stored number receipt) = refl
+items_as_listed (done.Taken items) = refl
+items_as_listed done.Empty = refl
+items_as_listed (done.Updated receipt) = refl
+items_as_listed done.Deleted = refl
+items_as_listed (done.Cleared count) = refl
+items_as_listed done.Swept = refl
+
+hold_as_told : (rows : List Message) (n m : ℕ) (command : Command) (answer : QueueDone) → (signs_of rows m command (reply_of_queues answer)).hold n ≡ hold_given n m (ask_of command) answer
+hold_as_told rows n m (MakeQueue queue) answer = refl
+hold_as_told rows n m (Put queue delay ttl text) answer = refl
+hold_as_told rows n m (Take queue count hold) answer = ap (λ items. if lists n items then Some (after m hold) else None) (items_as_listed answer)
+hold_as_told rows n m (Update queue number receipt hold text) answer = refl
+hold_as_told rows n m (Delete queue number receipt) answer = refl
+hold_as_told rows n m (Clear queue) answer = refl
+hold_as_told rows n m (Peek queue count) answer = refl
+hold_as_told rows n m (Locate number) answer = refl
+
+removes_as_told : (rows : List Message) (n m : ℕ) (command : Command) (reply : Reply) → (signs_of rows m command reply).removes n ≡ removes n m rows (ask_of command)
+removes_as_told rows n m (MakeQueue queue) reply = refl
+removes_as_told rows n m (Put queue delay ttl text) reply = refl
+removes_as_told rows n m (Take queue count hold) reply = refl
+removes_as_told rows n m (Update queue number receipt hold text) reply = refl
+removes_as_told rows n m (Delete queue number receipt) reply = refl
+removes_as_told rows n m (Clear queue) reply = refl
+removes_as_told rows n m (Peek queue count) reply = refl
+removes_as_told rows n m (Locate number) reply = refl
+
+-- the queue and the expiry that a command gives
+record IsBirth (rows : List Message) (m : ℕ) (command : Command) (reply : Reply) : Type 0 where
+  pub queue : (signs_of rows m command reply).queue ≡ queue_given (ask_of command)
+  pub expiry : (signs_of rows m command reply).expiry ≡ expiry_given m (ask_of command)
+
+birth_as_told : (rows : List Message) (m : ℕ) (command : Command) (reply : Reply) → IsBirth rows m command reply
+birth_as_told rows m (MakeQueue queue) reply = record { queue = refl; expiry = refl }
+birth_as_told rows m (Put queue delay ttl text) reply = record { queue = refl; expiry = refl }
+birth_as_told rows m (Take queue count hold) reply = record { queue = refl; expiry = refl }
+birth_as_told rows m (Update queue number receipt hold text) reply = record { queue = refl; expiry = refl }
+birth_as_told rows m (Delete queue number receipt) reply = record { queue = refl; expiry = refl }
+birth_as_told rows m (Clear queue) reply = record { queue = refl; expiry = refl }
+birth_as_told rows m (Peek queue count) reply = record { queue = refl; expiry = refl }
+birth_as_told rows m (Locate number) reply = record { queue = refl; expiry = refl }
 
 -- what has expired at a moment has at each later one
 pub expired_later : (m later : ℕ) (expiry : Option ℕ) → m ≤ later → is_before m expiry ≡ false → is_before later expiry ≡ false
 expired_later m later None less is = absurd (cc)
 expired_later m later (Some end) less is = grind (arith, nat_tests)
 
-none_numbered : (n m : ℕ) (rows : List Message) → standing n rows ≡ 0 → list_any (λ row. (row.number == n) && is_dead m row) rows ≡ false
-none_numbered n m [] none = refl
-none_numbered n m (row ∷ rows) none = grind (arith, nat_tests, standing-cons n row rows, none_numbered n m rows)
-
--- the one row of a number isn't live, where some row of the number isn't
-dead_row : (n m : ℕ) (rows : List Message) (row : Message) → standing n rows ≤ 1 → row_of n rows ≡ Some row → list_any (λ row. (row.number == n) && is_dead m row) rows ≡ true → is_live m row ≡ false
-dead_row n m [] row one found any = absurd (cc)
-dead_row n m (r ∷ rows) row one found any = grind (arith, nat_tests, standing-cons n r rows, none_numbered n m rows, dead_row n m rows row)
-
-gone_expired : (n : ℕ) (ends : List End) → was_expired n ends ≡ true → 1 ≤ gone n ends
-gone_expired n ends is = by_found (end_of n ends) refl is
+-- a message that doesn't stand has no row
+pub no_row : (n : ℕ) (part : QueuePart) (s : Seen) → seen n part ≡ s → ((row : Message) → s ≡ Stands row → ⊥) → row_of n part.rows ≡ None
+no_row n part s is never = by_found (row_of n part.rows) refl
   where
-    by_found : (found : Option End) → end_of n ends ≡ found → passes is_expiry found ≡ true → 1 ≤ gone n ends
-    by_found None found passed = absurd (cc)
-    by_found (Some e) found passed = gone-end_of n ends e found
+    by_found : (found : Option Message) → row_of n part.rows ≡ found → found ≡ None
+    by_found None found = refl
+    by_found (Some row) found = absurd (never row (sym is ∙ ap (λ r. seen_by r (end_of n part.ends)) found))
+
+more_below : (next later k : ℕ) → 1 ≤ next → next ≤ later → once_below next k + (if nat_le next k && nat_lt k later then 1 else 0) ≡ once_below later k
+more_below next later k begun less = grind (arith, nat_tests)
 
 module _ (events : List Event) (w : World) (command : Command) (now : ℕ) (new : World) (reply : Reply) (h : Told events w) (made : Made w command now new reply) where
   abbrev m : ℕ
@@ -85,99 +161,175 @@ module _ (events : List Event) (w : World) (command : Command) (now : ℕ) (new 
   abbrev more : List Event
   more = events ++ e ∷ []
 
-  next : Tallies more new
-  next = tallies_kept events w command now new reply h.tallies made
+  abbrev ask : Ask
+  ask = ask_of command
 
-  removed_kept : (n : ℕ) → was_removed n more ≡ was_deleted n new.queues.ends
-  removed_kept n =
-      or_push (list_any (removes n)) (removes n) refl (λ x xs. refl) events e
-      ∙ ap (λ was. was || removes n e) (h.removed n)
-      ∙ ap (λ by. was_deleted n w.queues.ends || by) (takes_out_as_asked n w.queues m command)
-      ∙ sym (was_deleted-outcome _ _ w.queues (ask_of command) m (new.queues, made.done) n h.tallies made.queues)
+  abbrev answer : QueueDone
+  answer = made.done.queues
 
-  kinds_kept : (n : ℕ) → gone n new.queues.ends ≡ deletions n new.queues.ends + expiries n new.queues.ends
-  kinds_kept n =
-      let grown = Ends-outcome w.queues (ask_of command) m (new.queues, made.done) made.queues in
-      let ends = w.queues.ends in
-      subst (λ (es : List End). gone n es ≡ deletions n es + expiries n es) (sym grown.kept)
-      (omega (arith, h.kinds n, grown.whole n, gone-append n ends grown.more, so_ended-append is_deletion n ends grown.more, so_ended-append is_expiry n ends grown.more))
+  whole_after : IsWhole new.parts.queues
+  whole_after = Whole-outcome w.parts.queues ask m new.parts.queues answer h.whole made.queues
+
+  births_push : (n : ℕ) → births n more ≡ births n events + (if born n answer then 1 else 0)
+  births_push n =
+      sum_by_push (λ (x : Event). cond (bears n x.reply) 1 0) events e
+      ∙ ap (λ b. births n events + (if b then 1 else 0)) (ap (bears n) made.replies ∙ bears_as_born n answer)
+
+  births_after : (n : ℕ) → births n more ≡ once_below new.parts.queues.next_number n
+  births_after n =
+      let moves = moves_little w.parts.queues ask m new.parts.queues answer h.whole made.queues in
+      births_push n
+      ∙ ap (λ k. k + (if born n answer then 1 else 0)) (h.births n)
+      ∙ ap (λ b. once_below w.parts.queues.next_number n + (if b then 1 else 0)) (gives_numbers w.parts.queues ask m new.parts.queues answer h.whole made.queues n)
+      ∙ more_below w.parts.queues.next_number new.parts.queues.next_number n (omega (arith, h.whole.numbers)) moves.numbers
+
+  receipts_after : (k : ℕ) → receipts k more ≡ once_below new.parts.queues.next_receipt k
+  receipts_after k =
+      let moves = moves_little w.parts.queues ask m new.parts.queues answer h.whole made.queues in
+      sum_by_push (λ (x : Event). gives k x.reply) events e
+      ∙ ap (λ j. receipts k events + j) (ap (gives k) made.replies ∙ gives_as_given k answer ∙ gives_receipts w.parts.queues ask m new.parts.queues answer h.whole made.queues k)
+      ∙ ap (λ j. j + (if nat_le w.parts.queues.next_receipt k && nat_lt k new.parts.queues.next_receipt then 1 else 0)) (h.receipts k)
+      ∙ more_below w.parts.queues.next_receipt new.parts.queues.next_receipt k h.whole.receipts moves.receipts
+
+  once : (n : ℕ) → births n more ≤ 1
+  once n = at_most_one (nat_le 1 n && nat_lt n new.parts.queues.next_number) (births_after n)
+    where
+      at_most_one : (test : Bool) → births n more ≡ (if test then 1 else 0) → births n more ≤ 1
+      at_most_one true is = omega (arith, is)
+      at_most_one false is = omega (arith, is)
+
+  last_hold_is : (n : ℕ) → last_hold n more ≡ newer (last_hold n events) (hold_given n m ask answer)
+  last_hold_is n =
+      fold_push (λ held (x : Event). newer held ((signs x).hold n)) None events e
+      ∙ ap (newer (last_hold n events)) (ap (λ (r : Reply). (signs_of w.parts.queues.rows m command r).hold n) made.replies ∙ hold_as_told w.parts.queues.rows n m command answer)
+
+  removed_is : (n : ℕ) → was_removed n more ≡ (was_removed n events || removes n m w.parts.queues.rows ask)
+  removed_is n =
+      or_push (list_any (λ (x : Event). (signs x).removes n)) (λ (x : Event). (signs x).removes n) refl (λ x xs. refl) events e
+      ∙ ap (λ r. was_removed n events || r) (removes_as_told w.parts.queues.rows n m command reply)
+
+  not_removed : (n : ℕ) → was_removed n events ≡ false → removes n m w.parts.queues.rows ask ≡ false → was_removed n more ≡ false
+  not_removed n before by = removed_is n ∙ ap (λ r. r || removes n m w.parts.queues.rows ask) before ∙ by
 
   -- the birth of a message stays
-  born_then : (n : ℕ) → 1 ≤ births n events → birth_of n more ≡ birth_of n events
-  born_then n some = birth_then n events e some (next.once n)
+  born_then : (n : ℕ) → births n events ≡ 1 → birth_of n more ≡ birth_of n events
+  born_then n some = birth_then n events e (omega (arith, some)) (once n)
 
-  hold_is : (n : ℕ) → hold_of n e ≡ hold_asked n m (ask_of command) made.done
-  hold_is n = ap (hold_by n m command) made.replies ∙ hold_as_asked n m command made.done
+  still_one : (n : ℕ) → births n events ≡ 1 → births n more ≡ 1
+  still_one n some = omega (arith, some, once n, births_push n)
 
-  last_hold_is : (n : ℕ) → last_hold n more ≡ newer (last_hold n events) (hold_asked n m (ask_of command) made.done)
-  last_hold_is n =
-      fold_push (λ held (x : Event). newer held (hold_of n x)) None events e ∙ ap (newer (last_hold n events)) (hold_is n)
+  expiry_then : (n : ℕ) → births n events ≡ 1 → is_before new.last (expiry_of n more) ≡ is_before m (expiry_of n events)
+  expiry_then n some = ap (λ k. is_before k (expiry_of n more)) made.last ∙ ap (λ b. is_before m (expiry_by b)) (born_then n some)
 
-  unheld_kept : (n : ℕ) → births n more ≡ 0 → last_hold n more ≡ None
-  unheld_kept n none =
-      let before : births n events ≡ 0 = omega (arith, none, births-push n events e made.done made.replies) in
-      let no_row : standing n w.queues.rows ≡ 0 = omega (arith, before, h.tallies.places n) in
-      let free : hold_asked n m (ask_of command) made.done ≡ None = holds_none w.queues (ask_of command) m (new.queues, made.done) n made.queues no_row in
-      last_hold_is n ∙ ap (newer (last_hold n events)) free ∙ h.unheld n before
-
-  expired_kept : (n : ℕ) → was_expired n new.queues.ends ≡ true → is_before new.last (expiry_of n more) ≡ false
-  expired_kept n is = by_tests (was_expired n w.queues.ends) (lapses n w.queues m (new.queues, made.done)) refl refl (sym (was_expired-outcome _ _ w.queues (ask_of command) m (new.queues, made.done) n h.tallies made.queues) ∙ is)
+  seen_unborn : (n : ℕ) → seen n w.parts.queues ≡ Unborn → IsSeenBy n events w.last Unborn → IsSeenBy n more new.last (newly m ask answer n)
+  seen_unborn n is was =
+      elim (told.new n) [
+        | inl nothing ↦ subst (IsSeenBy n more new.last) (sym nothing.0) (
+            births_push n ∙ ap (λ b. births n events + (if b then 1 else 0)) nothing.1 ∙ ap (λ k. k + 0) was.0,
+            unheld,
+            not_removed n was.2 none.1,
+          )
+        | inr one ↦ subst (IsSeenBy n more new.last) (sym one.1.comes) (first one.0 one.1)
+      ]
     where
-      later : w.last ≤ m
-      later = omega arith
+      told : TellsOfMessages w.parts.queues m ask new.parts.queues answer
+      told = tells w.parts.queues ask m new.parts.queues answer h.whole made.queues
 
-      at_last : 1 ≤ births n events → is_before m (expiry_of n events) ≡ false → is_before new.last (expiry_of n more) ≡ false
-      at_last some early = ap (λ k. is_before k (expiry_of n more)) made.last ∙ ap (λ b. is_before m (expiry_by b)) (born_then n some) ∙ early
+      none : (hold_given n m ask answer ≡ None) × (removes n m w.parts.queues.rows ask ≡ false)
+      none = told.none n (no_row n w.parts.queues Unborn is (λ row stands. cc))
 
-      by_row : (found : Option Message) → row_of n w.queues.rows ≡ found → lapses n w.queues m (new.queues, made.done) ≡ true → is_before new.last (expiry_of n more) ≡ false
-      by_row None found lapse = absurd (lapse_absurd (none_numbered n m w.queues.rows (standing-none n w.queues.rows found)) lapse)
-        where
-          lapse_absurd : list_any (λ row. (row.number == n) && is_dead m row) w.queues.rows ≡ false → lapses n w.queues m (new.queues, made.done) ≡ true → ⊥
-          lapse_absurd none lapse = grind (arith, nat_tests)
-      by_row (Some row) found lapse =
-          let any : list_any (λ row. (row.number == n) && is_dead m row) w.queues.rows ≡ true = grind (arith, nat_tests) in
-          let over : is_live m row ≡ false = dead_row n m w.queues.rows row (one_row h.tallies n) found any in
-          at_last (omega (arith, h.tallies.places n, standing-row_of n w.queues.rows row found)) (sym (ap (is_before m) (h.rows n row found).expiry) ∙ over)
+      unheld : last_hold n more ≡ None
+      unheld = last_hold_is n ∙ ap (newer (last_hold n events)) none.0 ∙ was.1
 
-      by_tests : (was lapse : Bool) → was_expired n w.queues.ends ≡ was → lapses n w.queues m (new.queues, made.done) ≡ lapse → (was_expired n w.queues.ends || lapses n w.queues m (new.queues, made.done)) ≡ true → is_before new.last (expiry_of n more) ≡ false
-      by_tests true lapse before now_is is =
-          at_last (ended_born before) (expired_later w.last m (expiry_of n events) later (h.expired n before))
-        where
-          ended_born : was_expired n w.queues.ends ≡ true → 1 ≤ births n events
-          ended_born before = omega (arith, h.tallies.places n, gone_expired n w.queues.ends before)
-      by_tests false true before now_is is = by_row (row_of n w.queues.rows) refl now_is
-      by_tests false false before now_is is = absurd (grind (arith, nat_tests))
+      first : (row : Message) → IsNew n m ask answer row → IsTold n more row
+      first row one =
+          let bearing : bears n e.reply ≡ true = ap (bears n) made.replies ∙ bears_as_born n answer ∙ one.born in
+          let birth : birth_of n more ≡ Some e = birth_now n events e was.0 bearing in
+          let gave = birth_as_told w.parts.queues.rows m command reply in
+          record {
+            born = births_push n ∙ ap (λ b. births n events + (if b then 1 else 0)) one.born ∙ ap (λ k. k + 1) was.0;
+            queue = one.queue ∙ sym (ap queue_by birth ∙ gave.queue);
+            expiry = one.expiry ∙ sym (ap expiry_by birth ∙ gave.expiry);
+            hold = one.unheld ∙ sym unheld;
+            stays = not_removed n was.2 none.1;
+          }
 
-  rows_kept : (n : ℕ) (row : Message) → row_of n new.queues.rows ≡ Some row → IsTold n more row
-  rows_kept n row found = by_row (row_of n w.queues.rows) refl
+  seen_row : (n : ℕ) (row : Message) → row_of n w.parts.queues.rows ≡ Some row → IsTold n events row → IsSeenBy n more new.last (goes_on m ask answer n (Stands row))
+  seen_row n row found was = by_tests (is_live m row) (deletes ask row) refl refl
     where
-      by_row : (before : Option Message) → row_of n w.queues.rows ≡ before → IsTold n more row
-      by_row None none =
-          let is = comes w.queues (ask_of command) m (new.queues, made.done) n row made.queues none found in
-          let unborn : births n events ≡ 0 = h.tallies.fresh n (omega (arith, is.number)) in
-          let bearing : bears n e.reply ≡ true = ap (bears n) made.replies ∙ is.born in
-          let birth : birth_of n more ≡ Some e = birth_now n events e unborn bearing in
-          record {
-            queue = is.queue ∙ sym (ap queue_by birth ∙ queue_as_asked command);
-            expiry = is.expiry ∙ sym (ap expiry_by birth ∙ expiry_as_asked command m);
-            hold = is.unheld ∙ sym (last_hold_is n ∙ ap (newer (last_hold n events)) is.unlisted ∙ h.unheld n unborn);
-          }
-      by_row (Some before) was =
-          let told = h.rows n before was in
-          let some : 1 ≤ births n events = omega (arith, h.tallies.places n, standing-row_of n w.queues.rows before was) in
-          let acts = Acts-outcome _ _ w.queues (ask_of command) m (new.queues, made.done) n before row h.tallies made.queues was found in
-          let on = goes_on w.queues (ask_of command) m (new.queues, made.done) n before row made.queues (row_of-number n w.queues.rows before was) acts in
-          record {
-            queue = on.queue ∙ told.queue ∙ sym (ap queue_by (born_then n some));
-            expiry = on.expiry ∙ told.expiry ∙ sym (ap expiry_by (born_then n some));
-            hold = on.hold ∙ ap (λ held. newer held (hold_asked n m (ask_of command) made.done)) told.hold ∙ sym (last_hold_is n);
-          }
+      told : TellsOfMessages w.parts.queues m ask new.parts.queues answer
+      told = tells w.parts.queues ask m new.parts.queues answer h.whole made.queues
+
+      by_tests : (alive out : Bool) → is_live m row ≡ alive → deletes ask row ≡ out → IsSeenBy n more new.last (goes_on m ask answer n (Stands row))
+      by_tests false out over is =
+          subst (IsSeenBy n more new.last) (sym (ap (λ b. if not b then Ended Expired else if deletes ask row then Ended Deleted else Stands (answered m ask answer row)) over)) (record {
+            born = still_one n was.born;
+            over = expiry_then n was.born ∙ sym (ap (is_before m) was.expiry) ∙ over;
+            stays = not_removed n was.stays (told.dead n row found over);
+          })
+      by_tests true true alive is =
+          subst (IsSeenBy n more new.last) (sym (ap (λ b. if not b then Ended Expired else if deletes ask row then Ended Deleted else Stands (answered m ask answer row)) alive ∙ ap (λ b. if b then Ended Deleted else Stands (answered m ask answer row)) is)) (
+            still_one n was.born,
+            removed_is n ∙ ap (λ r. r || removes n m w.parts.queues.rows ask) was.stays ∙ sym (told.removed n row found alive) ∙ is,
+          )
+      by_tests true false alive is =
+          let same = told.same n row found in
+          subst (IsSeenBy n more new.last) (sym (ap (λ b. if not b then Ended Expired else if deletes ask row then Ended Deleted else Stands (answered m ask answer row)) alive ∙ ap (λ b. if b then Ended Deleted else Stands (answered m ask answer row)) is)) (record {
+            born = still_one n was.born;
+            queue = same.queue ∙ was.queue ∙ sym (ap queue_by (born_then n was.born));
+            expiry = same.expiry ∙ was.expiry ∙ sym (ap expiry_by (born_then n was.born));
+            hold = same.hold ∙ ap (λ held. newer held (hold_given n m ask answer)) was.hold ∙ sym (last_hold_is n);
+            stays = not_removed n was.stays (sym (told.removed n row found alive) ∙ is);
+          })
+
+  seen_ended : (n : ℕ) (ending : Ending) → seen n w.parts.queues ≡ Ended ending → IsSeenBy n events w.last (Ended ending) → IsSeenBy n more new.last (Ended ending)
+  seen_ended n Deleted is was = (still_one n was.0, removed_is n ∙ ap (λ r. r || removes n m w.parts.queues.rows ask) was.1)
+  seen_ended n (Completed invocation) is was = absurd was
+  seen_ended n (Moved copy) is was = absurd was
+  seen_ended n Expired is was =
+      let told = tells w.parts.queues ask m new.parts.queues answer h.whole made.queues in
+      record {
+        born = still_one n was.born;
+        over = expiry_then n was.born ∙ expired_later w.last m (expiry_of n events) (omega arith) was.over;
+        stays = not_removed n was.stays (told.none n (no_row n w.parts.queues (Ended Expired) is (λ row stands. cc))).1;
+      }
+
+  seen_after : (n : ℕ) → IsSeenBy n more new.last (seen n new.parts.queues)
+  seen_after n =
+      subst (IsSeenBy n more new.last) (sym (goes_as_answered w.parts.queues ask m new.parts.queues answer h.whole made.queues n))
+      (by_seen (seen n w.parts.queues) refl (h.seen n))
+    where
+      by_seen : (s : Seen) → seen n w.parts.queues ≡ s → IsSeenBy n events w.last s → IsSeenBy n more new.last (goes_on m ask answer n s)
+      by_seen Unborn is was = seen_unborn n is was
+      by_seen (Stands row) is was = seen_row n row (row_seen n w.parts.queues row is) was
+      by_seen (Ended ending) is was = seen_ended n ending is was
 
   told_after : Told more new
-  told_after = record { tallies = next; removed = removed_kept; kinds = kinds_kept; rows = rows_kept; expired = expired_kept; unheld = unheld_kept }
+  told_after = record { whole = whole_after; births = births_after; receipts = receipts_after; seen = seen_after }
+
+pub told_kept : IsKept Told
+told_kept = told_after
+
+-- a message that was born is born once and for all
+pub born_stays : (events : List Event) (w : World) (command : Command) (now : ℕ) (new : World) (reply : Reply) → Told events w → Made w command now new reply → (n : ℕ) → births n events ≡ 1 → births n (events ++ event w command now reply new ∷ []) ≡ 1
+born_stays events w command now new reply h made n some = still_one events w command now new reply h made n some
+
+nothing_below_1 : (k : ℕ) → ◌≡◌ {A = ℕ} 0 (once_below 1 k)
+nothing_below_1 k = grind (arith, nat_tests)
+
+unseen : (n : ℕ) → IsSeenBy n [] 0 (seen n no_queues)
+unseen n = by_test (n == 0)
+  where
+    by_test : (zero : Bool) → IsSeenBy n [] 0 (seen_by None (if zero then None else None))
+    by_test true = (refl, refl, refl)
+    by_test false = (refl, refl, refl)
+
+pub told_none : Told [] empty
+told_none = record { whole = Whole-none; births = nothing_below_1; receipts = nothing_below_1; seen = unseen }
 
 pub told : (history : List Entry) → Told (trace history) (replay history)
-told history =
-    kept_by_all Told told_after
-    (record { tallies = Accounts-none; removed = λ n. refl; kinds = λ n. refl; rows = λ n row found. absurd (cc); expired = λ n is. absurd (cc); unheld = λ n none. refl })
-    history
+told history = kept_by_all Told told_kept told_none history
+
+-- the queues of a faithful state are whole
+pub whole_state : (s : HubState) → IsFaithful s → IsWhole s.stores.queues.part
+whole_state s faithful = subst (λ (w : World). IsWhole w.parts.queues) (sym faithful.world) (told s.history).whole

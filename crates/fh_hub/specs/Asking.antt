@@ -1,10 +1,10 @@
--- Where the code sends a command first, as the machine does.
-use Rattle.fh_queues.specs.Asks.{ask_of}
-use Rattle.fh_hub.specs.World.{Dispatch, Refuses, Reads, Asks}
-use Rattle.fh_hub.specs.declared.asking.Dispatch.TheVariants as code
-use Rattle.fh_hub.specs.declared.asking.Dispatch as declared
+-- What the code asks for a command, as the machine does.
+use Rattle.fh_hub.specs.World.{Asked, Refuses, Reads, AsksAll}
+use Rattle.fh_hub.specs.StoreEdits.{asks_of}
+use Rattle.fh_hub.specs.declared.asking.Asked.TheVariants as code
+use Rattle.fh_hub.specs.declared.asking.Asked as declared
 
-abbrev pub dispatch_of : declared.Dispatch → Dispatch
-dispatch_of (code.Refuses rule) = Refuses rule
-dispatch_of (code.Reads reply) = Reads reply
-dispatch_of (code.Asks ask) = Asks (ask_of ask)
+abbrev pub asked_as : declared.Asked → Asked
+asked_as (code.Refuses rule) = Refuses rule
+asked_as (code.Reads reply) = Reads reply
+asked_as (code.Asks asks) = AsksAll (asks_of asks)

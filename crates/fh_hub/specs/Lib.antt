@@ -1,3 +1,5 @@
+pub mod Stores
+pub mod StoreEdits
 pub mod World
 pub mod Asking
 pub mod Replay
@@ -6,6 +8,7 @@ pub mod State
 pub mod Plans
 pub mod Hub
 pub mod Mounting
+pub mod Signs
 pub mod Laws
 pub mod Places
 pub mod Guards

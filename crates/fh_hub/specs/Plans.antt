@@ -1,13 +1,13 @@
--- What a plan and a fault say of a step.
+-- What planning a command comes to.
 use Rattle.std.specs.Prelude.{◌≡◌, ⊤, ℕ, ◌≤◌, length}
+use Rattle.fh_event.specs.declared.command.Command.{Command}
 use Rattle.fh_event.specs.declared.faults.PlanFault.{PlanFault}
 use Rattle.fh_event.specs.declared.faults.PlanFault.TheVariants.{Rule as OfRule, NoMemory}
-use Rattle.fh_event.specs.declared.command.Command.{Command}
 use Rattle.fh_event.specs.Entries.{entry}
-use Rattle.fh_queues.specs.Asks.{Ask}
-use Rattle.fh_queues.specs.Edits as queue_edits
-use Rattle.fh_queues.specs.Outcome.{Outcome, outcome}
-use Rattle.fh_hub.specs.World.{Stepped, Refused, Read, Quieted, recorded, unless_refused, effective_moment}
+use Rattle.fh_hub.specs.Stores.{Asks, outcomes, too_full}
+use Rattle.fh_hub.specs.StoreEdits.{parts_of, changed, answered}
+use Rattle.fh_hub.specs.StoreEdits as store_edits
+use Rattle.fh_hub.specs.World.{Stepped, Refused, Read, Quieted, recorded, judged, effective_moment}
 use Rattle.fh_hub.specs.Replay.{Entry, entry_for}
 use Rattle.fh_hub.specs.History.{entry_of}
 use Rattle.fh_hub.specs.State.{HubState, world_of, IsPlanned}
@@ -20,21 +20,20 @@ use Rattle.fh_hub.specs.declared.plan.Plan.TheVariants.{Reads, Quiet, Records}
 abbrev pub entry_at : HubState → Command → ℕ → Entry
 entry_at s command now = entry_for command (effective_moment (world_of s) now)
 
--- the step that an ask of the queues comes to, by a command that acts at this moment
-abbrev pub step_of_ask : HubState → Command → Ask → ℕ → Stepped
-step_of_ask s command ask m = unless_refused (world_of s) m (length (entry m command)) (outcome s.queues.part ask m)
-
--- what the queues make of a planned change, and what they answer
-abbrev pub outcome_of : HubState → Change → Outcome
-outcome_of s change = queue_edits.planned s.queues.part change.queues
+-- the step that asks of the stores come to, by a command that acts at this moment
+abbrev pub step_of_asks : HubState → Command → Asks → ℕ → Stepped
+step_of_asks s command asks m =
+    judged (world_of s) m (length (entry m command)) (too_full (parts_of s.stores) asks m) (outcomes (parts_of s.stores) asks m)
 
 -- the change is what the machine makes of this entry
 abbrev pub IsPlannedAs : HubState → Change → Entry → Type 0
-IsPlannedAs s change e = IsPlanned s (outcome_of s change) change.payload e
+IsPlannedAs s change e = IsPlanned s (changed (parts_of s.stores) change.stores) (answered change.stores) change.payload e
 
 -- the change is recorded, as this entry
 pub record IsChangeFor (s : HubState) (stepped : Stepped) (e : Entry) (change : Change) : Type 0 where
-  pub steps : stepped ≡ recorded (world_of s) e.moment (length change.payload) (outcome_of s change)
+  pub steps :
+      stepped
+      ≡ recorded (world_of s) e.moment (length change.payload) (changed (parts_of s.stores) change.stores) (answered change.stores)
   pub moment : change.moment ≡ e.moment
   pub entry : entry_of change.payload ≡ e
   pub planned : IsPlannedAs s change e
@@ -52,7 +51,7 @@ IsFaultOfStep NoMemory stepped = ⊤
 
 -- a staged change is what the machine makes of an entry, and has its memory
 pub record IsStaged (s : HubState) (staged : Staged) (e : Entry) : Type 0 where
-  pub planned : IsPlanned s (queue_edits.made s.queues staged.queues) staged.payload e
+  pub planned : IsPlanned s (store_edits.made s.stores staged.stores) (store_edits.made_done s.stores staged.stores) staged.payload e
   pub moment : staged.moment ≡ e.moment
-  pub queues : queue_edits.IsStaged s.queues staged.queues
+  pub stores : store_edits.IsStaged s.stores staged.stores
   pub room : 1 ≤ s.room

@@ -3,21 +3,22 @@ use Rattle.std.specs.Prelude.{◌≡◌, ℕ, ◌+◌, ◌*◌, ◌≤◌, List,
 use Rattle.fh_base.specs.Moments.{greatest_moment}
 use Rattle.fh_event.specs.Entries.{IsEntry}
 use Rattle.fh_journal.specs.Journal.{opened}
-use Rattle.fh_queues.specs.Edits as queue_edits
-use Rattle.fh_queues.specs.Outcome.{Outcome}
+use Rattle.fh_hub.specs.Stores.{Parts, Done}
+use Rattle.fh_hub.specs.StoreEdits.{StoresState, parts_of}
+use Rattle.fh_hub.specs.StoreEdits as store_edits
 use Rattle.fh_hub.specs.World.{World, recorded, step, most_bytes}
 use Rattle.fh_hub.specs.Replay.{Entry, payloads_of, replay, IsLegal}
 
 -- the stores, the last moment, the place of the next gate, and the history with the room that was reserved in it
 pub record HubState : Type 0 where
-  pub queues : queue_edits.QueueState
+  pub stores : StoresState
   pub last : ℕ
   pub gate : ℕ
   pub history : List Entry
   pub room : ℕ
 
 abbrev pub world_of : HubState → World
-world_of s = record { queues = s.queues.part; gate = s.gate; last = s.last }
+world_of s = record { parts = parts_of s.stores; gate = s.gate; last = s.last }
 
 -- the world is that of the history, which is legal, and no counter is near its end
 pub record IsFaithful (s : HubState) : Type 0 where
@@ -26,23 +27,23 @@ pub record IsFaithful (s : HubState) : Type 0 where
   pub place : s.gate ≡ length (opened (payloads_of s.history))
   pub within : s.gate ≤ most_bytes
   pub timed : s.last ≤ greatest_moment
-  pub number : s.queues.part.next_number ≤ s.gate
-  pub receipt : s.queues.part.next_receipt ≤ 32 * s.gate
+  pub number : s.stores.queues.part.next_number ≤ s.gate
+  pub receipt : s.stores.queues.part.next_receipt ≤ 32 * s.gate
 
 -- no change is staged
 abbrev pub IsIdle : HubState → Type 0
-IsIdle s = queue_edits.IsIdle s.queues
+IsIdle s = store_edits.IsIdle s.stores
 
 -- world and history are the same
 pub record IsUnchanged (old new : HubState) : Type 0 where
   pub world : world_of new ≡ world_of old
   pub history : new.history ≡ old.history
 
--- this part and answer are what the machine makes of the entry, whose bytes are these
-pub record IsPlanned (s : HubState) (made : Outcome) (payload : List ℕ) (e : Entry) : Type 0 where
-  pub steps : step (world_of s) e.command e.moment ≡ recorded (world_of s) e.moment (length payload) made
+-- these parts and answers are what the machine makes of the entry, whose bytes are these
+pub record IsPlanned (s : HubState) (made : Parts) (done : Done) (payload : List ℕ) (e : Entry) : Type 0 where
+  pub steps : step (world_of s) e.command e.moment ≡ recorded (world_of s) e.moment (length payload) made done
   pub own_moment : s.last ≤ e.moment
-  pub outcome : queue_edits.IsOutcome s.queues.part made
+  pub outcome : store_edits.IsOutcome (parts_of s.stores) made done
   pub spelled : IsEntry payload e.moment e.command
   pub room : s.gate + 6 + length payload ≤ most_bytes
   pub short : (1 ≤ length payload) × (length payload ≤ 16777216)

@@ -1,160 +1,142 @@
-// Where a command goes first: it is answered at once, or it asks the queues for a change.
-ghost use Rattle.std.specs.Prelude.{◌≡◌, IfOk, None, option_map};
-ghost use Rattle.fh_event.specs.declared.command.Command.TheVariants.{MakeQueue, Put, Take, Update, Delete, Clear, Peek};
-ghost use Rattle.fh_hub.specs.World.{Asks, where_named, reads_items, dispatch};
-ghost use Rattle.fh_hub.specs.Asking.{dispatch_of};
-ghost use Rattle.fh_queues.specs.Edits.{QueueState};
+// What a command asks: it is answered at once, or it asks all stores.
+ghost use Rattle.std.specs.Prelude.{◌≡◌, IfOk};
+ghost use Rattle.fh_event.specs.declared.reply.Reply.TheVariants.{Located};
 ghost use Rattle.fh_queues.specs.Outcome.{peeked};
-ghost use Rattle.fh_queues.specs.Asks as asks;
+ghost use Rattle.fh_queues.specs.Places.{place_of};
+ghost use Rattle.fh_hub.specs.World.{Reads, asked, asked_of, reads_items};
+ghost use Rattle.fh_hub.specs.Asking.{asked_as};
+ghost use Rattle.fh_hub.specs.StoreEdits.{parts_of};
 
+use crate::stores::{StoreAsks, Stores};
 use fh_base::{Moment, NoMemory, QueueName, Rule};
-use fh_event::{Command, PlanFault, Reply, Text};
-use fh_queues::{QueueAsk, Queues};
+use fh_event::{Command, PlanFault, Reply};
+use fh_queues::QueueAsk;
 use std::alloc::Global;
 
-/// Where a command goes first: it is refused or answered at once, or it asks the queues for a change.
+/// What a command asks: it is refused or answered at once, or it asks all stores.
 #[derive(Drop)]
-pub(crate) enum Dispatch<'a> {
+pub(crate) enum Asked<'a> {
     Refuses(Rule),
     Reads(Reply),
-    Asks(QueueAsk<'a>),
+    Asks(StoreAsks<'a>),
 }
 
-impl<'a> Dispatch<'a> {
-    /// Where a command goes at a moment.
-    #[tactic(auto, unfolding(crate::specs::World::dispatch))]
+impl<'a> Asked<'a> {
+    /// What a command asks at a moment.
+    #[tactic(auto, unfolding(crate::specs::World::asked))]
     pub(crate) fn of(
         alloc: Global,
-        queues: &Queues,
+        stores: &Stores,
         command: &'a Command,
         m: Moment,
-    ) -> Result<Dispatch<'a>, NoMemory>
-        ensures { IfOk result (λ a. dispatch_of a ≡ dispatch queues.now.part command.entry.now m) }
+    ) -> Result<Asked<'a>, NoMemory>
+        ensures { IfOk result (λ a. asked_as a ≡ asked (parts_of stores.now) command.entry.now m) }
     {
         match command {
-            Command::MakeQueue { queue } => Ok(Dispatch::make(queue)),
-            Command::Put {
-                queue,
-                delay,
-                ttl,
-                text,
-            } => Ok(Dispatch::put(queue, *delay, *ttl, text)),
-            Command::Take { queue, count, hold } => Ok(Dispatch::take(queue, *count, *hold)),
-            Command::Update {
-                queue,
-                number,
-                receipt,
-                hold,
-                text,
-            } => Ok(Dispatch::update(queue, *number, *receipt, *hold, text.as_ref())),
-            Command::Delete {
-                queue,
-                number,
-                receipt,
-            } => Ok(Dispatch::delete(queue, *number, *receipt)),
-            Command::Clear { queue } => Ok(Dispatch::clear(queue)),
-            Command::Peek { queue, count } => Dispatch::peek(alloc, queues, queue, *count, m),
-            Command::Locate { number } => {
-                let place = queues.place_of(*number, m);
-                Ok(Dispatch::Reads(Reply::Located { place }))
-            }
+            Command::MakeQueue { queue }
+            | Command::Put { queue, .. }
+            | Command::Take { queue, .. }
+            | Command::Update { queue, .. }
+            | Command::Delete { queue, .. }
+            | Command::Clear { queue }
+            | Command::Peek { queue, .. } => match QueueName::read(queue.as_str()) {
+                None => Ok(Asked::Refuses(Rule::BadName)),
+                Some(queue) => Asked::of_queue(alloc, stores, queue, command, m),
+            },
+            Command::Locate { number } => Ok(Asked::located(stores, *number, m)),
         }
     }
 
-    fn make(queue: &Text) -> Dispatch<'a>
-        ensures { dispatch_of result ≡ where_named queue.now (Asks (asks.Make queue.now)) }
-    {
-        match QueueName::read(queue.as_str()) {
-            None => Dispatch::Refuses(Rule::BadName),
-            Some(queue) => Dispatch::Asks(QueueAsk::Make { queue }),
-        }
-    }
-
-    fn put(queue: &Text, delay: u64, ttl: Option<u64>, text: &'a Text) -> Dispatch<'a>
-        ensures { dispatch_of result
-            ≡ where_named queue.now (Asks (asks.Put queue.now delay ttl text.entry.now None)) }
-    {
-        match QueueName::read(queue.as_str()) {
-            None => Dispatch::Refuses(Rule::BadName),
-            Some(queue) => Dispatch::Asks(QueueAsk::Put {
-                queue,
-                delay,
-                ttl,
-                text,
-                about: None,
-            }),
-        }
-    }
-
-    fn take(queue: &Text, count: u64, hold: u64) -> Dispatch<'a>
-        ensures { dispatch_of result ≡ where_named queue.now (Asks (asks.Take queue.now count hold)) }
-    {
-        match QueueName::read(queue.as_str()) {
-            None => Dispatch::Refuses(Rule::BadName),
-            Some(queue) => Dispatch::Asks(QueueAsk::Take { queue, count, hold }),
-        }
-    }
-
-    fn update(
-        queue: &Text,
-        number: u64,
-        receipt: u64,
-        hold: u64,
-        text: Option<&'a Text>,
-    ) -> Dispatch<'a>
-        ensures { dispatch_of result ≡ where_named queue.now
-            (Asks (asks.Update queue.now number receipt hold (option_map (λ t. t.now) text.entry))) }
-    {
-        match QueueName::read(queue.as_str()) {
-            None => Dispatch::Refuses(Rule::BadName),
-            Some(queue) => Dispatch::Asks(QueueAsk::Update {
-                queue,
-                number,
-                receipt,
-                hold,
-                text,
-            }),
-        }
-    }
-
-    fn delete(queue: &Text, number: u64, receipt: u64) -> Dispatch<'a>
-        ensures { dispatch_of result ≡ where_named queue.now (Asks (asks.Delete queue.now number receipt)) }
-    {
-        match QueueName::read(queue.as_str()) {
-            None => Dispatch::Refuses(Rule::BadName),
-            Some(queue) => Dispatch::Asks(QueueAsk::Delete {
-                queue,
-                number,
-                receipt,
-            }),
-        }
-    }
-
-    fn clear(queue: &Text) -> Dispatch<'a>
-        ensures { dispatch_of result ≡ where_named queue.now (Asks (asks.Clear queue.now)) }
-    {
-        match QueueName::read(queue.as_str()) {
-            None => Dispatch::Refuses(Rule::BadName),
-            Some(queue) => Dispatch::Asks(QueueAsk::Clear { queue }),
-        }
-    }
-
-    fn peek(
+    // What a command asks of the queue that it names.
+    fn of_queue(
         alloc: Global,
-        queues: &Queues,
-        queue: &Text,
+        stores: &Stores,
+        queue: QueueName,
+        command: &'a Command,
+        m: Moment,
+    ) -> Result<Asked<'a>, NoMemory>
+        ensures { IfOk result
+            (λ a. asked_as a ≡ asked_of (parts_of stores.now) queue command.entry.now m) }
+    {
+        match command {
+            Command::MakeQueue { .. } => Ok(Asked::Asks(StoreAsks {
+                queues: QueueAsk::Make { queue },
+            })),
+            Command::Put {
+                delay,
+                ttl,
+                text,
+                ..
+            } => Ok(Asked::Asks(StoreAsks {
+                queues: QueueAsk::Put {
+                    queue,
+                    delay: *delay,
+                    ttl: *ttl,
+                    text,
+                    about: None,
+                },
+            })),
+            Command::Take { count, hold, .. } => Ok(Asked::Asks(StoreAsks {
+                queues: QueueAsk::Take {
+                    queue,
+                    count: *count,
+                    hold: *hold,
+                },
+            })),
+            Command::Update {
+                number,
+                receipt,
+                hold,
+                text,
+                ..
+            } => Ok(Asked::Asks(StoreAsks {
+                queues: QueueAsk::Update {
+                    queue,
+                    number: *number,
+                    receipt: *receipt,
+                    hold: *hold,
+                    text: text.as_ref(),
+                },
+            })),
+            Command::Delete {
+                number,
+                receipt,
+                ..
+            } => Ok(Asked::Asks(StoreAsks {
+                queues: QueueAsk::Delete {
+                    queue,
+                    number: *number,
+                    receipt: *receipt,
+                },
+            })),
+            Command::Clear { .. } => Ok(Asked::Asks(StoreAsks {
+                queues: QueueAsk::Clear { queue },
+            })),
+            Command::Peek { count, .. } => Asked::peeked(alloc, stores, &queue, *count, m),
+            Command::Locate { number } => Ok(Asked::located(stores, *number, m)),
+        }
+    }
+
+    fn located(stores: &Stores, number: u64, m: Moment) -> Asked<'a>
+        ensures { asked_as result ≡ Reads (Located (place_of stores.now.queues.part number m)) }
+    {
+        let place = stores.place_of(number, m);
+        Asked::Reads(Reply::Located { place })
+    }
+
+    fn peeked(
+        alloc: Global,
+        stores: &Stores,
+        queue: &QueueName,
         count: u64,
         m: Moment,
-    ) -> Result<Dispatch<'a>, NoMemory>
-        ensures { IfOk result (λ a. dispatch_of a
-            ≡ where_named queue.now (reads_items (peeked queues.now.part queue.now count m))) }
+    ) -> Result<Asked<'a>, NoMemory>
+        ensures { IfOk result
+            (λ a. asked_as a ≡ reads_items (peeked stores.now.queues.part queue.now count m)) }
     {
-        let Some(queue) = QueueName::read(queue.as_str()) else {
-            return Ok(Dispatch::Refuses(Rule::BadName));
-        };
-        match queues.peek(alloc, &queue, count, m) {
-            Ok(items) => Ok(Dispatch::Reads(Reply::Peeked { items })),
-            Err(PlanFault::Rule(rule)) => Ok(Dispatch::Refuses(rule)),
+        match stores.peek(alloc, queue, count, m) {
+            Ok(items) => Ok(Asked::Reads(Reply::Peeked { items })),
+            Err(PlanFault::Rule(rule)) => Ok(Asked::Refuses(rule)),
             Err(PlanFault::NoMemory) => Err(NoMemory),
         }
     }

@@ -113,7 +113,7 @@ impl<'d, J: Disk> Hub<'d, J> {
     pub fn place_of(&self, number: u64, now: u64) -> Place
         requires { now ≤ greatest_moment }
         ensures { result
-            ≡ place_of self.now.state.queues.part number (effective_moment (world_of self.now.state) now) }
+            ≡ place_of self.now.state.stores.queues.part number (effective_moment (world_of self.now.state) now) }
     {
         let now = Moment::new(now).unwrap();
         self.state.place_of(number, now)

@@ -6,7 +6,8 @@ ghost use Rattle.fh_hub.specs.Replay.{Entry, trace, replay, IsLegal};
 ghost use Rattle.fh_hub.specs.Hub.{StandsForHistory};
 ghost use Rattle.fh_hub.specs.Mounting.{IsBrokenAt, StandsForNone};
 ghost use Rattle.fh_hub.specs.declared.faults.HubRule.{HubRule};
-ghost use Rattle.fh_hub.specs.Laws.{births, receipts};
+ghost use Rattle.fh_hub.specs.Laws.{births, receipts, IsGivenInTurn};
+ghost use Rattle.fh_queues.specs.Whole.{IsWhole};
 ghost use Rattle.fh_hub.specs.Places.{IsInOnePlace, IsLocated};
 ghost use Rattle.fh_hub.specs.Guards.{GuardsMessages, RisesOver, HasOwnMoment};
 
@@ -21,14 +22,24 @@ pub fn files_have_one_history()
         → IsBrokenAt file at rule → IsBrokenAt file place other → (at ≡ place) × (rule ≡ other) }
 {}
 
-/// A number is given to one message at most.
+/// Messages are numbered from 1 on, each number given to one message and none left out.
 pub fn numbers_are_given_once()
-    ensures { (history : List Entry) (n : ℕ) → births n (trace history) ≤ 1 }
+    ensures once { (history : List Entry) (n : ℕ) → births n (trace history) ≤ 1 }
+    ensures in_turn { (history : List Entry) (n : ℕ)
+        → IsGivenInTurn n (replay history).parts.queues.next_number (births n (trace history)) }
 {}
 
-/// A receipt is given out once at most, over all replies.
+/// Receipts are given out from 1 on, each once over all replies and none left out.
 pub fn receipts_are_given_once()
-    ensures { (history : List Entry) (k : ℕ) → receipts k (trace history) ≤ 1 }
+    ensures once { (history : List Entry) (k : ℕ) → receipts k (trace history) ≤ 1 }
+    ensures in_turn { (history : List Entry) (k : ℕ)
+        → IsGivenInTurn k (replay history).parts.queues.next_receipt (receipts k (trace history)) }
+{}
+
+/// Rows stand in order of number, a count is at most its receipt, and a message whose number was given has
+/// a row or has ended, and not both.
+pub fn queues_are_whole()
+    ensures { (history : List Entry) → IsWhole (replay history).parts.queues }
 {}
 
 /// At each moment from the last one on, a message that was born stands in exactly one place: it waits, it

@@ -1,20 +1,20 @@
 // What a command comes to.
+use crate::stores::{StagedStores, StoreChanges};
 use fh_base::Moment;
 use fh_event::Reply;
 use fh_journal::Payload;
-use fh_queues::{QueueChange, StagedQueues};
 
 /// A change of the stores and the history, with the bytes of its entry. It may be dropped.
 #[derive(Drop)]
 pub struct Change {
-    pub(crate) queues: QueueChange,
+    pub(crate) stores: StoreChanges,
     pub(crate) payload: Payload,
     pub(crate) moment: Moment,
 }
 
 /// A change that has its memory. It has to be settled or unstaged.
 pub struct Staged {
-    pub(crate) queues: StagedQueues,
+    pub(crate) stores: StagedStores,
     pub(crate) payload: Payload,
     pub(crate) moment: Moment,
 }

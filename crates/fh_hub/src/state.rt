@@ -2,20 +2,21 @@
 ghost use Rattle.std.specs.Prelude.{◌≡◌, ◌+◌, ◌≤◌, ◌∷◌, ◌++◌, [], max, length, IfOk, IfErr, OnOk, OnErr};
 ghost use Rattle.fh_base.specs.Moments.{greatest_moment};
 ghost use Rattle.fh_event.specs.Entries.{entry, IsEntry, HasShortTexts};
-ghost use Rattle.fh_queues.specs.Asks.{ask_of};
 ghost use Rattle.fh_queues.specs.Places.{place_of};
-ghost use Rattle.fh_hub.specs.World.{Recorded, Asks, dispatch, empty, step, step_at, reply_of, effective_moment};
+ghost use Rattle.fh_hub.specs.World.{Recorded, AsksAll, asked, empty, step, step_at, reply_of, effective_moment};
 ghost use Rattle.fh_hub.specs.Replay.{Entry, entry_for, IsLegal};
 ghost use Rattle.fh_hub.specs.State.{world_of, IsIdle, IsUnchanged, IsFaithful};
-ghost use Rattle.fh_hub.specs.Plans.{entry_at, step_of_ask, IsPlanFor, IsPlannedAs, IsFaultOfStep, IsStaged};
+ghost use Rattle.fh_hub.specs.StoreEdits.{asks_of, done_of, parts_of};
+ghost use Rattle.fh_hub.specs.Plans.{entry_at, step_of_asks, IsPlanFor, IsPlannedAs, IsFaultOfStep, IsStaged};
 
-use crate::asking::Dispatch;
+use crate::asking::Asked;
 use crate::history::History;
 use crate::plan::{Change, Plan, Staged};
+use crate::stores::{StoreAsks, Stores, StoresDone};
 use fh_base::{Moment, NoMemory, Rule};
 use fh_event::{Command, Place, PlanFault, Reply, encode};
 use fh_journal::{Payload, room_behind};
-use fh_queues::{QueueAsk, QueueDone, Queues};
+use fh_queues::QueueDone;
 use std::alloc::Global;
 use std::marker::Model;
 
@@ -28,7 +29,7 @@ const AROUND: u64 = 5;
 /// The stores, the last moment, the place of the journal's next gate, and the history.
 #[derive(Drop)]
 pub struct State {
-    queues: Queues,
+    stores: Stores,
     last: u64,
     gate: u64,
     history: History,
@@ -40,7 +41,7 @@ impl Model for State {
     ghost Value = { HubState };
 
     ghost view = { λ s. record {
-      queues = s.queues;
+      stores = s.stores;
       last = s.last;
       gate = s.gate;
       history = s.history.entries;
@@ -48,7 +49,7 @@ impl Model for State {
     } };
 
     ghost invariant = { λ s. IsFaithful (record {
-      queues = s.queues;
+      stores = s.stores;
       last = s.last;
       gate = s.gate;
       history = s.history.entries;
@@ -65,7 +66,7 @@ impl State {
         ensures faithful { IsFaithful result }
     {
         State {
-            queues: Queues::new(alloc),
+            stores: Stores::new(alloc),
             last: 0,
             gate: FIRST_GATE,
             history: History::new(alloc),
@@ -96,9 +97,9 @@ impl State {
 
     /// Where a message is at the effective moment.
     pub fn place_of(&self, number: u64, now: Moment) -> Place
-        ensures { result ≡ place_of self.now.queues.part number (effective_moment (world_of self.now) now) }
+        ensures { result ≡ place_of self.now.stores.queues.part number (effective_moment (world_of self.now) now) }
     {
-        self.queues.place_of(number, effective(now, self.last))
+        self.stores.place_of(number, effective(now, self.last))
     }
 
     /// What a command comes to at the moment that is handed in, in milliseconds.
@@ -126,38 +127,41 @@ impl State {
         ensures err { IfErr result
             (λ fault. IsFaultOfStep fault (step_at (world_of self.now) command.now m)) }
     {
-        match Dispatch::of(alloc, &self.queues, command, m)? {
-            Dispatch::Refuses(rule) => Err(PlanFault::Rule(rule)),
-            Dispatch::Reads(reply) => Ok(Plan::Reads(reply)),
-            Dispatch::Asks(ask) => self.plan_ask(alloc, command, &ask, m),
+        match Asked::of(alloc, &self.stores, command, m)? {
+            Asked::Refuses(rule) => Err(PlanFault::Rule(rule)),
+            Asked::Reads(reply) => Ok(Plan::Reads(reply)),
+            Asked::Asks(asks) => self.plan_asks(alloc, command, &asks, m),
         }
     }
 
-    fn plan_ask(
+    fn plan_asks(
         &self,
         alloc: Global,
         command: &Command,
-        ask: &QueueAsk<'_>,
+        asks: &StoreAsks<'_>,
         m: Moment,
     ) -> Result<Plan, PlanFault>
         requires idle { IsIdle self.now }
         requires own_moment { self.now.last ≤ m }
-        requires asks { dispatch self.now.queues.part command.now m ≡ Asks (ask_of ask.now) }
+        requires asks { asked (parts_of self.now.stores) command.now m ≡ AsksAll (asks_of asks.now) }
         ensures ok { IfOk result (IsPlanFor self.now
-            (step_of_ask self.now command.now (ask_of ask.now) m) (entry_for command.now m)) }
+            (step_of_asks self.now command.now (asks_of asks.now) m) (entry_for command.now m)) }
         ensures err { IfErr result
-            (λ fault. IsFaultOfStep fault (step_of_ask self.now command.now (ask_of ask.now) m)) }
+            (λ fault. IsFaultOfStep fault (step_of_asks self.now command.now (asks_of asks.now) m)) }
     {
-        let queues = self.queues.plan(alloc, ask, m)?;
-        if let Some(done) = queues.quiet() {
-            return Ok(Plan::Quiet(reply_of(done)));
+        let stores = self.stores.plan(alloc, asks, m)?;
+        if stores.is_quiet() {
+            return Ok(Plan::Quiet(reply_of(stores.into_done())));
+        }
+        if let Some(rule) = self.stores.too_full(asks, m) {
+            return Err(PlanFault::Rule(rule));
         }
         let payload = payload_of(alloc, command, m)?;
         if let Some(length) = room_behind(self.gate, payload.as_slice().len() as u64) {
             return Err(PlanFault::Rule(Rule::JournalFull { length }));
         }
         Ok(Plan::Records(Change {
-            queues,
+            stores,
             payload,
             moment: m,
         }))
@@ -178,14 +182,14 @@ impl State {
         ensures faithful { IsFaithful self.new }
     {
         let Change {
-            queues,
+            stores,
             payload,
             moment,
         } = change;
         self.history.reserve()?;
-        let queues = self.queues.stage(queues)?;
+        let stores = self.stores.stage(stores)?;
         Ok(Staged {
-            queues,
+            stores,
             payload,
             moment,
         })
@@ -202,11 +206,11 @@ impl State {
         ensures faithful { IsFaithful self.new }
     {
         let Staged {
-            queues,
+            stores,
             payload,
             moment,
         } = staged;
-        let done = self.queues.settle(queues);
+        let done = self.stores.settle(stores);
         self.last = moment.ms();
         self.gate += AROUND + payload.as_slice().len() as u64;
         self.history.add(payload);
@@ -222,11 +226,11 @@ impl State {
         ensures gate { self.new.gate ≡ self.old.gate }
     {
         let Staged {
-            queues,
+            stores,
             payload: _,
             moment: _,
         } = staged;
-        self.queues.unstage(queues);
+        self.stores.unstage(stores);
     }
 }
 
@@ -240,10 +244,10 @@ fn effective(now: Moment, last: u64) -> Moment
     Moment::new(last).unwrap()
 }
 
-fn reply_of(done: QueueDone) -> Reply
-    ensures { result ≡ reply_of done }
+fn reply_of(done: StoresDone) -> Reply
+    ensures { result ≡ reply_of (done_of done) }
 {
-    match done {
+    match done.queues {
         QueueDone::Made => Reply::Made,
         QueueDone::There => Reply::There,
         QueueDone::Stored { number, receipt } => Reply::Stored { number, receipt },

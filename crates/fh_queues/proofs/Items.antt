@@ -3,8 +3,8 @@ use Rattle.std.proofs.Common.{◌≡◌, ℕ, zero, suc, ◌+◌, ◌<◌, Bool,
 use Rattle.std.specs.List.{list_all}
 use Rattle.std.proofs.lemmas.Grind.{common_steps}
 use Rattle.fh_queues.specs.declared.row.Message.{Message}
-use Rattle.fh_queues.specs.Part.{taken_items}
-use Rattle.fh_queues.specs.Sound.{is_counted}
+use Rattle.fh_queues.specs.Outcome.{taken_items}
+use Rattle.fh_queues.specs.Whole.{is_counted}
 
 -- one more row is taken with the next receipt
 pub taken_items-push : (receipt : ℕ) (rows : List Message) (row : Message) → taken_items receipt (rows ++ row ∷ []) ≡ taken_items receipt rows ++ record { number = row.number; receipt = receipt + length rows; count = row.count + 1; text = row.text } ∷ []

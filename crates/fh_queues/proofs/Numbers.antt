@@ -1,73 +1,123 @@
--- How far one ask moves the counters.
-use Rattle.std.proofs.Common.{◌≡◌, ℕ, suc, ◌+◌, ◌≤◌, Bool, true, false, List, [], ◌∷◌, length, Some, None, refl, ap, Ok, arith, length-take}
-use Rattle.std.specs.Prelude.{◌&&◌, nat_le, if◌then◌else◌}
+-- Numbers and receipts are given in turn.
+use Rattle.std.proofs.Common.{◌≡◌, ℕ, suc, ◌+◌, ◌≤◌, ◌<◌, Bool, true, false, cond, List, [], ◌∷◌, length, take, map, refl, sym, ◌∙◌, ap, arith, length-take}
+use Rattle.std.specs.Prelude.{◌==◌, ◌&&◌, nat_le, nat_lt, if◌then◌else◌, count_by}
 use Rattle.std.proofs.lemmas.Bool.Decides.{nat_tests}
-use Rattle.fh_base.specs.declared.rule.Rule.TheVariants.{OutOfRange}
+use Rattle.std.proofs.lemmas.List.Sums.{sum_by-cons}
+use Rattle.fh_event.specs.declared.reply.Item.{Item}
 use Rattle.fh_queues.specs.declared.row.Message.{Message}
-use Rattle.fh_queues.specs.Asks.{Ask, Make, Put, Take, Update, Delete, Clear, Sweep}
+use Rattle.fh_queues.specs.declared.done.QueueDone.{QueueDone}
+use Rattle.fh_queues.specs.declared.done.QueueDone.TheVariants as done
+use Rattle.fh_queues.specs.declared.act.Act.{Act}
+use Rattle.fh_queues.specs.declared.act.Act.TheVariants.{AddQueue, AddRow, ChangeRow, EndRows}
 use Rattle.fh_queues.specs.Rows.{visible}
-use Rattle.fh_queues.specs.Part.{QueuePart, swept, taken_items}
-use Rattle.fh_queues.specs.Rules.{range_rule, take_rule, queue_rule}
-use Rattle.fh_queues.specs.Outcome.{Outcome, outcome}
-use Rattle.fh_queues.proofs.Ways.{by_ways, chosen, unbroken, unbroken-head}
+use Rattle.fh_queues.specs.Part.{QueuePart}
+use Rattle.fh_queues.specs.Acts.{acted, by_acts, sweep}
+use Rattle.fh_queues.specs.Outcome.{after, taken_items, hold}
+use Rattle.fh_queues.specs.Receipts.{born, given}
+use Rattle.fh_queues.proofs.Goings.{counters-sweep}
+use Rattle.fh_queues.proofs.Ways.{Ways, chosen, listed}
 
--- how many receipts an ask may give out
-abbrev most_receipts : Ask → ℕ
-most_receipts (Make queue) = 1
-most_receipts (Put queue delay ttl text about) = 1
-most_receipts (Take queue count hold) = count
-most_receipts (Update queue number receipt hold text) = 1
-most_receipts (Delete queue number receipt) = 1
-most_receipts (Clear queue) = 1
-most_receipts Sweep = 1
+-- so many numbers and receipts were given
+record Counted (before later : QueuePart) (numbers receipts : ℕ) : Type 0 where
+  pub number : later.next_number ≡ before.next_number + numbers
+  pub receipt : later.next_receipt ≡ before.next_receipt + receipts
+
+-- how many numbers and receipts an act gives
+abbrev numbers_of : Act → ℕ
+numbers_of (AddRow new) = 1
+numbers_of act = 0
+
+abbrev receipts_of : Act → ℕ
+receipts_of (AddRow new) = 1
+receipts_of (ChangeRow number change) = 1
+receipts_of act = 0
+
+counts : (part : QueuePart) (act : Act) → Counted part (acted part act) (numbers_of act) (receipts_of act)
+unfolding acted
+counts part (AddQueue queue) = record { number = omega arith; receipt = omega arith }
+counts part (AddRow new) = record { number = refl; receipt = refl }
+counts part (ChangeRow number change) = record { number = omega arith; receipt = refl }
+counts part (EndRows which ending) = record { number = omega arith; receipt = omega arith }
+
+counts_held : (until : ℕ) (items : List Item) (part : QueuePart) → Counted part (by_acts part (map (hold until) items)) 0 (length items)
+counts_held until [] part = record { number = omega arith; receipt = omega arith }
+counts_held until (item ∷ items) part =
+    let one = counts part (hold until item) in
+    let rest = counts_held until items (acted part (hold until item)) in
+    record { number = omega (arith, one.number, rest.number); receipt = omega (arith, one.receipt, rest.receipt) }
 
 length-taken_items : (receipt : ℕ) (rows : List Message) → length (taken_items receipt rows) ≡ length rows
 length-taken_items receipt [] = refl
 length-taken_items receipt (row ∷ rows) = ap suc (length-taken_items (receipt + 1) rows)
 
--- the counters move by this much at most
-record MovesBy (part : QueuePart) (ask : Ask) (made : Outcome) : Type 0 where
-  pub number : made.0.next_number ≤ part.next_number + 1
-  pub receipt : made.0.next_receipt ≤ part.next_receipt + most_receipts ask
+-- how often items list a receipt
+abbrev with_receipt : ℕ → List Item → ℕ
+with_receipt k items = count_by (λ item. item.receipt == k) items
 
-by_each : (part : QueuePart) (m : ℕ) (ask : Ask) (made : Outcome) → outcome part ask m ≡ Ok made → MovesBy part ask made
-by_each part m = let same : (swept m part).next_receipt ≡ part.next_receipt = refl in let alike : (swept m part).next_number ≡ part.next_number = refl in by_ways (MovesBy part) part m (record {
-  there = λ queue. record { number = omega (arith, alike); receipt = omega (arith, same) };
-  makes = λ queue. record { number = omega (arith, alike); receipt = omega (arith, same) };
-  puts = λ queue delay ttl text about. record { number = omega (arith, alike); receipt = omega (arith, same) };
-  finds_none = λ queue count hold. record { number = omega (arith, alike); receipt = omega (arith, same) };
-  takes = λ queue count hold. record {
-    number = omega (arith, alike);
-    receipt = omega (arith, same, length-taken_items part.next_receipt (chosen part m queue count), length-take count (visible queue m part.rows));
-  };
-  updates = λ queue number receipt hold text is. record { number = omega (arith, alike); receipt = omega (arith, same) };
-  deletes = λ queue number receipt is. record { number = omega (arith, alike); receipt = omega (arith, same) };
-  clears_none = λ queue none. record { number = omega (arith, alike); receipt = omega (arith, same) };
-  clears = λ queue. record { number = omega (arith, alike); receipt = omega (arith, same) };
-  sweeps = record { number = omega (arith, alike); receipt = omega (arith, same) };
-})
+with_receipt-cons : (k : ℕ) (item : Item) (items : List Item) → with_receipt k (item ∷ items) ≡ (if item.receipt == k then 1 else 0) + with_receipt k items
+with_receipt-cons k item items = sum_by-cons (λ (i : Item). cond (i.receipt == k) 1 0) item items
 
-in_range : (given low high : ℕ) → range_rule given low high ≡ None → given ≤ high
-in_range given low high is = by_test (nat_le low given && nat_le given high) refl is
-  where
-    by_test : (within : Bool) → (nat_le low given && nat_le given high) ≡ within → (if within then None else Some (OutOfRange given low high)) ≡ None → given ≤ high
-    by_test true test is = grind (arith, nat_tests, test)
-    by_test false test is = absurd (cc)
+-- what is taken has the next receipts, each once
+listed_in_turn : (k receipt : ℕ) (rows : List Message) → with_receipt k (taken_items receipt rows) ≡ (if nat_le receipt k && nat_lt k (receipt + length rows) then 1 else 0)
+listed_in_turn k receipt [] = grind (arith, nat_tests)
+listed_in_turn k receipt (row ∷ rows) =
+    let item : Item = record { number = row.number; receipt = receipt; count = row.count + 1; text = row.text } in
+    grind (arith, nat_tests, with_receipt-cons k item (taken_items (receipt + 1) rows), listed_in_turn k (receipt + 1) rows)
 
-few_receipts : (part : QueuePart) (m : ℕ) (ask : Ask) (made : Outcome) → outcome part ask m ≡ Ok made → most_receipts ask ≤ 32
-unfolding outcome
-few_receipts part m (Make queue) made is = omega arith
-few_receipts part m (Put queue delay ttl text about) made is = omega arith
-few_receipts part m (Take queue count hold) made is =
-    in_range count 1 32 (unbroken-head (range_rule count 1 32) (range_rule hold 1 604800 ∷ queue_rule part queue ∷ []) (unbroken (take_rule part queue count hold) _ made is)).0
-few_receipts part m (Update queue number receipt hold text) made is = omega arith
-few_receipts part m (Delete queue number receipt) made is = omega arith
-few_receipts part m (Clear queue) made is = omega arith
-few_receipts part m Sweep made is = omega arith
+-- the answer gives the numbers and receipts by which the counters moved
+pub record IsGiven (part later : QueuePart) (answer : QueueDone) : Type 0 where
+  pub number : (n : ℕ) → born n answer ≡ (nat_le part.next_number n && nat_lt n later.next_number)
+  pub receipt : (k : ℕ) → given k answer ≡ (if nat_le part.next_receipt k && nat_lt k later.next_receipt then 1 else 0)
+  pub numbers : part.next_number ≤ later.next_number
+  pub receipts : part.next_receipt ≤ later.next_receipt
+  pub one : later.next_number ≤ part.next_number + 1
+  pub few : later.next_receipt ≤ part.next_receipt + 32
 
--- one ask gives one number and 32 receipts at most
-pub Numbers-outcome : (part : QueuePart) (ask : Ask) (m : ℕ) (made : Outcome) → outcome part ask m ≡ Ok made
-    → (made.0.next_number ≤ part.next_number + 1) × (made.0.next_receipt ≤ part.next_receipt + 32)
-Numbers-outcome part ask m made is =
-    let moves = by_each part m ask made is in
-    (moves.number, omega (arith, moves.receipt, few_receipts part m ask made is))
+module _ (part : QueuePart) (m : ℕ) where
+  abbrev pub swept : QueuePart
+  swept = acted part (sweep m)
+
+  moved : (numbers receipts : ℕ) (later : QueuePart) → Counted swept later numbers receipts → Counted part later numbers receipts
+  moved numbers receipts later counted =
+      let same = counters-sweep part m in record { number = omega (arith, counted.number, same.0); receipt = omega (arith, counted.receipt, same.1) }
+
+  gives : (numbers receipts : ℕ) (later : QueuePart) (answer : QueueDone) → Counted swept later numbers receipts → numbers ≤ 1 → receipts ≤ 32
+      → ((n : ℕ) → born n answer ≡ (nat_le part.next_number n && nat_lt n (part.next_number + numbers)))
+      → ((k : ℕ) → given k answer ≡ (if nat_le part.next_receipt k && nat_lt k (part.next_receipt + receipts) then 1 else 0))
+      → IsGiven part later answer
+  gives numbers receipts later answer counted one few born_is given_is =
+      let by = moved numbers receipts later counted in
+      record {
+        number = λ n. born_is n ∙ ap (λ k. nat_le part.next_number n && nat_lt n k) (sym by.number);
+        receipt = λ k. given_is k ∙ ap (λ j. if nat_le part.next_receipt k && nat_lt k j then 1 else 0) (sym by.receipt);
+        numbers = omega (arith, by.number);
+        receipts = omega (arith, by.receipt);
+        one = omega (arith, by.number, one);
+        few = omega (arith, by.receipt, few);
+      }
+
+  none : (k next : ℕ) → false ≡ (nat_le next k && nat_lt k (next + 0))
+  none k next = grind (arith, nat_tests)
+
+  zero_times : (k next : ℕ) → ◌≡◌ {A = ℕ} 0 (if nat_le next k && nat_lt k (next + 0) then 1 else 0)
+  zero_times k next = ap (λ b. if b then 1 else 0) (none k next)
+
+  just_once : (k next : ℕ) → ◌≡◌ {A = ℕ} (if next == k then 1 else 0) (if nat_le next k && nat_lt k (next + 1) then 1 else 0)
+  just_once k next = grind (arith, nat_tests)
+
+  pub givings : Ways (λ ask acts answer. IsGiven part (by_acts swept acts) answer) part m
+  givings = record {
+    makes = λ queue. gives 0 0 _ _ (counts swept (AddQueue queue)) (omega arith) (omega arith) (λ n. none n part.next_number) (λ k. zero_times k part.next_receipt);
+    puts = λ queue delay ttl text about short. gives 1 1 _ _ (counts swept (AddRow _)) (omega arith) (omega arith) (λ n. grind (arith, nat_tests)) (λ k. just_once k part.next_receipt);
+    takes = λ queue count seconds less.
+        let rows = chosen part m queue count in
+        let items = listed part m queue count in
+        let long : length items ≡ length rows = length-taken_items part.next_receipt rows in
+        gives 0 (length items) _ _ (counts_held (after m seconds) items swept) (omega arith) (omega (arith, long, less, length-take count (visible queue m part.rows)))
+        (λ n. none n part.next_number)
+        (λ k. listed_in_turn k part.next_receipt rows ∙ ap (λ l. if nat_le part.next_receipt k && nat_lt k (part.next_receipt + l) then 1 else 0) (sym long));
+    updates = λ queue number receipt seconds text short named. gives 0 1 _ _ (counts swept (ChangeRow number _)) (omega arith) (omega arith) (λ n. none n part.next_number) (λ k. just_once k part.next_receipt);
+    deletes = λ queue number receipt named. gives 0 0 _ _ (counts swept (EndRows _ _)) (omega arith) (omega arith) (λ n. none n part.next_number) (λ k. zero_times k part.next_receipt);
+    clears = λ queue. gives 0 0 _ _ (counts swept (EndRows _ _)) (omega arith) (omega arith) (λ n. none n part.next_number) (λ k. zero_times k part.next_receipt);
+    sweeps = gives 0 0 swept _ (record { number = omega arith; receipt = omega arith }) (omega arith) (omega arith) (λ n. none n part.next_number) (λ k. zero_times k part.next_receipt);
+  }

@@ -1,25 +1,32 @@
--- The ways in which an ask that isn't refused changes the queues: what holds of each holds of every outcome.
-use Rattle.std.proofs.Common.{◌≡◌, ℕ, Bool, true, false, List, [], ◌∷◌, length, take, Option, Some, None, Ok, refl, subst, arith}
-use Rattle.std.specs.Prelude.{◌==◌, if◌then◌else◌}
+-- The ways in which an ask changes the queues: what holds of each holds of every outcome.
+use Rattle.std.proofs.Common.{◌≡◌, ℕ, ◌≤◌, Bool, true, false, List, [], ◌∷◌, length, take, map, Option, Some, None, refl, sym, subst, arith}
+use Rattle.std.specs.Prelude.{◌==◌, ◌&&◌, nat_le, nat_lt, IfSome, if◌then◌else◌}
 use Rattle.std.proofs.lemmas.Bool.Decides.{nat_tests}
 use Rattle.fh_base.specs.declared.rule.Rule.{Rule}
-use Rattle.fh_base.specs.declared.rule.Rule.TheVariants.{PopReceiptMismatch}
+use Rattle.fh_base.specs.declared.rule.Rule.TheVariants.{OutOfRange, PopReceiptMismatch, TooLarge}
+use Rattle.fh_event.specs.declared.reply.Item.{Item}
+use Rattle.fh_event.specs.Judging.{Quiets, Makes, unless_refused}
 use Rattle.fh_queues.specs.declared.row.Message.{Message}
 use Rattle.fh_queues.specs.declared.row.About.{About}
+use Rattle.fh_queues.specs.declared.done.QueueDone.{QueueDone}
 use Rattle.fh_queues.specs.declared.done.QueueDone.TheVariants as done
 use Rattle.fh_queues.specs.declared.done.Ending.TheVariants as endings
+use Rattle.fh_queues.specs.declared.act.Which.TheVariants.{InQueue, Numbered}
+use Rattle.fh_queues.specs.declared.act.Act.{Act}
+use Rattle.fh_queues.specs.declared.act.Act.TheVariants.{AddQueue, AddRow, ChangeRow, EndRows}
 use Rattle.fh_queues.specs.Asks.{Ask, Make, Put, Take, Update, Delete, Clear, Sweep}
 use Rattle.fh_queues.specs.Rows.{live, visible, row_in}
-use Rattle.fh_queues.specs.Part.{QueuePart, has_queue, swept, with_queue, after, row_of_put, with_row, taken_items, with_items, with_renewal, with_end, rows_of, cleared}
-use Rattle.fh_queues.specs.Rules.{first_broken, put_rule, take_rule, queue_rule, receipt_rule, message_rule, update_rule, new_text_rule, range_rule}
-use Rattle.fh_queues.specs.Outcome.{Outcome, outcome, unless_refused, making, holding, clearing}
+use Rattle.fh_queues.specs.Part.{QueuePart, has_queue}
+use Rattle.fh_queues.specs.Acts.{by_acts, sweep}
+use Rattle.fh_queues.specs.Rules.{first_broken, text_rule, ttl_rule, delay_rule, put_rule, take_rule, queue_rule, receipt_rule, message_rule, update_rule, new_text_rule, range_rule}
+use Rattle.fh_queues.specs.Outcome.{after, new_message, taken_items, hold, renewal, rows_of, Acting, making, holding, clearing, acting, made_by, outcome}
 
--- the messages that a take holds
+-- the messages that a take holds, and how they are listed
 abbrev pub chosen : QueuePart → ℕ → List ℕ → ℕ → List Message
 chosen part m queue count = take count (visible queue m part.rows)
 
-abbrev pub taken : QueuePart → ℕ → ℕ → List Message → Outcome
-taken part m until rows = (with_items until (taken_items part.next_receipt rows) (swept m part), done.Taken (taken_items part.next_receipt rows))
+abbrev pub listed : QueuePart → ℕ → List ℕ → ℕ → List Item
+listed part m queue count = taken_items part.next_receipt (chosen part m queue count)
 
 -- the named message is a live row of the queue, and has the named receipt
 pub record IsNamed (part : QueuePart) (m : ℕ) (queue : List ℕ) (number receipt : ℕ) : Type 0 where
@@ -27,30 +34,23 @@ pub record IsNamed (part : QueuePart) (m : ℕ) (queue : List ℕ) (number recei
   pub stands : row_in queue number m part.rows ≡ Some row
   pub newest : row.receipt ≡ receipt
 
-pub record Ways (P : Ask → Outcome → Type 0) (part : QueuePart) (m : ℕ) : Type 0 where
-  pub there : (queue : List ℕ) → P (Make queue) (part, done.There)
-  pub makes : (queue : List ℕ) → P (Make queue) (with_queue queue (swept m part), done.Made)
-  pub puts : (queue : List ℕ) (delay : ℕ) (ttl : Option ℕ) (text : List ℕ) (about : Option About) → P (Put queue delay ttl text about) (with_row (row_of_put part m queue delay ttl text about) (swept m part), done.Stored part.next_number part.next_receipt)
-  pub finds_none : (queue : List ℕ) (count hold : ℕ) → P (Take queue count hold) (part, done.Empty)
-  pub takes : (queue : List ℕ) (count hold : ℕ) → P (Take queue count hold) (taken part m (after m hold) (chosen part m queue count))
-  pub updates : (queue : List ℕ) (number receipt hold : ℕ) (text : Option (List ℕ)) → IsNamed part m queue number receipt → P (Update queue number receipt hold text) (with_renewal number (after m hold) text (swept m part), done.Updated part.next_receipt)
-  pub deletes : (queue : List ℕ) (number receipt : ℕ) → IsNamed part m queue number receipt → P (Delete queue number receipt) (with_end number endings.Deleted (swept m part), done.Deleted)
-  pub clears_none : (queue : List ℕ) → rows_of queue (live m part.rows) ≡ [] → P (Clear queue) (part, done.Empty)
-  pub clears : (queue : List ℕ) → P (Clear queue) (cleared queue (swept m part), done.Cleared (length (rows_of queue (live m part.rows))))
-  pub sweeps : P Sweep (swept m part, done.Swept)
+pub record Ways (P : Ask → List Act → QueueDone → Type 0) (part : QueuePart) (m : ℕ) : Type 0 where
+  pub makes : (queue : List ℕ) → P (Make queue) (AddQueue queue ∷ []) done.Made
+  pub puts : (queue : List ℕ) (delay : ℕ) (ttl : Option ℕ) (text : List ℕ) (about : Option About) → length text ≤ 65536 → P (Put queue delay ttl text about) (AddRow (new_message m queue delay ttl text about) ∷ []) (done.Stored part.next_number part.next_receipt)
+  pub takes : (queue : List ℕ) (count seconds : ℕ) → count ≤ 32 → P (Take queue count seconds) (map (hold (after m seconds)) (listed part m queue count)) (done.Taken (listed part m queue count))
+  pub updates : (queue : List ℕ) (number receipt seconds : ℕ) (text : Option (List ℕ)) → IfSome text (λ t. length t ≤ 65536) → IsNamed part m queue number receipt → P (Update queue number receipt seconds text) (ChangeRow number (renewal (after m seconds) text) ∷ []) (done.Updated part.next_receipt)
+  pub deletes : (queue : List ℕ) (number receipt : ℕ) → IsNamed part m queue number receipt → P (Delete queue number receipt) (EndRows (Numbered number) endings.Deleted ∷ []) done.Deleted
+  pub clears : (queue : List ℕ) → P (Clear queue) (EndRows (InQueue queue) endings.Deleted ∷ []) (done.Cleared (length (rows_of queue (live m part.rows))))
+  pub sweeps : P Sweep [] done.Swept
 
--- what is answered where no rule refuses it
-accepted : {X : Type 0} (rule : Option Rule) (x made : X) → unless_refused rule x ≡ Ok made → x ≡ made
-accepted None x made is = cc
-accepted (Some rule) x made is = absurd (cc)
-
--- no rule refused it
-pub unbroken : {X : Type 0} (rule : Option Rule) (x made : X) → unless_refused rule x ≡ Ok made → rule ≡ None
-unbroken None x made is = refl
-unbroken (Some rule) x made is = absurd (cc)
+-- the acts by which an ask made this
+pub record Way (P : Ask → List Act → QueueDone → Type 0) (part : QueuePart) (m : ℕ) (ask : Ask) (after : QueuePart) (answer : QueueDone) : Type 0 where
+  pub acts : List Act
+  pub made : by_acts part (sweep m ∷ acts) ≡ after
+  pub holds : P ask acts answer
 
 -- where the first broken rule is none, so is each of them
-pub unbroken-head : (rule : Option Rule) (rules : List (Option Rule)) → first_broken (rule ∷ rules) ≡ None → (rule ≡ None) × (first_broken rules ≡ None)
+unbroken-head : (rule : Option Rule) (rules : List (Option Rule)) → first_broken (rule ∷ rules) ≡ None → (rule ≡ None) × (first_broken rules ≡ None)
 unbroken-head None rules is = (refl, is)
 unbroken-head (Some rule) rules is = absurd (cc)
 
@@ -68,44 +68,83 @@ named part m queue number receipt is =
     let rest = unbroken-head (queue_rule part queue) (receipt_rule found receipt ∷ []) is in
     found_by_receipt found part m queue number receipt refl (unbroken-head (receipt_rule found receipt) [] rest.1).0
 
-named_by_update : (part : QueuePart) (m : ℕ) (queue : List ℕ) (number receipt hold : ℕ) (text : Option (List ℕ)) → update_rule part m queue number receipt hold text ≡ None → IsNamed part m queue number receipt
-named_by_update part m queue number receipt hold text is =
+named_by_update : (part : QueuePart) (m : ℕ) (queue : List ℕ) (number receipt seconds : ℕ) (text : Option (List ℕ)) → update_rule part m queue number receipt seconds text ≡ None → IsNamed part m queue number receipt
+named_by_update part m queue number receipt seconds text is =
     let last = message_rule part m queue number receipt in
-    let first = unbroken-head (new_text_rule text) (range_rule hold 0 604800 ∷ last ∷ []) is in
-    let second = unbroken-head (range_rule hold 0 604800) (last ∷ []) first.1 in
+    let first = unbroken-head (new_text_rule text) (range_rule seconds 0 604800 ∷ last ∷ []) is in
+    let second = unbroken-head (range_rule seconds 0 604800) (last ∷ []) first.1 in
     named part m queue number receipt (unbroken-head last [] second.1).0
 
-module _ (P : Ask → Outcome → Type 0) (part : QueuePart) (m : ℕ) (ways : Ways P part m) where
-  by_making : (queue : List ℕ) (there : Bool) → P (Make queue) (if there then (part, done.There) else (with_queue queue (swept m part), done.Made))
-  by_making queue true = ways.there queue
-  by_making queue false = ways.makes queue
+in_range : (given low high : ℕ) → range_rule given low high ≡ None → given ≤ high
+in_range given low high is = by_test (nat_le low given && nat_le given high) refl is
+  where
+    by_test : (within : Bool) → (nat_le low given && nat_le given high) ≡ within → (if within then None else Some (OutOfRange given low high)) ≡ None → given ≤ high
+    by_test true test is = grind (arith, nat_tests, test)
+    by_test false test is = absurd (cc)
 
-  by_holding : (queue : List ℕ) (count hold : ℕ) (rows : List Message) → chosen part m queue count ≡ rows → P (Take queue count hold) (holding part m (after m hold) rows)
-  by_holding queue count hold [] is = ways.finds_none queue count hold
-  by_holding queue count hold (row ∷ rows) is = subst (λ (rs : List Message). P (Take queue count hold) (taken part m (after m hold) rs)) is (ways.takes queue count hold)
+short_text : (text : List ℕ) → text_rule text ≡ None → length text ≤ 65536
+short_text text is = by_test (nat_lt 65536 (length text)) refl is
+  where
+    by_test : (long : Bool) → nat_lt 65536 (length text) ≡ long → (if long then Some (TooLarge (length text) 65536) else None) ≡ None → length text ≤ 65536
+    by_test true test is = absurd (cc)
+    by_test false test is = grind (arith, nat_tests, test)
 
-  by_clearing : (queue : List ℕ) (rows : List Message) → rows_of queue (live m part.rows) ≡ rows → P (Clear queue) (clearing part m queue rows)
-  by_clearing queue [] is = ways.clears_none queue is
-  by_clearing queue (row ∷ rows) is = subst (λ (rs : List Message). P (Clear queue) (cleared queue (swept m part), done.Cleared (length rs))) is (ways.clears queue)
+short_new_text : (text : Option (List ℕ)) → new_text_rule text ≡ None → IfSome text (λ t. length t ≤ 65536)
+short_new_text None is = tt
+short_new_text (Some text) is = short_text text is
+
+few : (part : QueuePart) (queue : List ℕ) (count seconds : ℕ) → take_rule part queue count seconds ≡ None → count ≤ 32
+few part queue count seconds is =
+    in_range count 1 32 (unbroken-head (range_rule count 1 32) (range_rule seconds 1 604800 ∷ queue_rule part queue ∷ []) is).0
+
+module _ (P : Ask → List Act → QueueDone → Type 0) (part : QueuePart) (m : ℕ) (ways : Ways P part m) (after_ask : QueuePart) (answer : QueueDone) where
+  -- no rule refused it
+  accepted : (rule : Option Rule) (acts : Acting) → made_by part m (unless_refused rule acts) ≡ Makes after_ask answer → (rule ≡ None) × (made_by part m acts ≡ Makes after_ask answer)
+  accepted None acts is = (refl, is)
+  accepted (Some rule) acts is = absurd (cc)
+
+  way : (ask : Ask) (acts : List Act) (given : QueueDone) → P ask acts given → made_by part m (Makes acts given) ≡ Makes after_ask answer → Way P part m ask after_ask answer
+  way ask acts given holds is =
+      let made : by_acts part (sweep m ∷ acts) ≡ after_ask = cc in
+      let same : given ≡ answer = cc in
+      record { acts = acts; made = made; holds = subst (λ (d : QueueDone). P ask acts d) same holds }
+
+  by_making : (queue : List ℕ) (there : Bool) → made_by part m (if there then Quiets done.There else Makes (AddQueue queue ∷ []) done.Made) ≡ Makes after_ask answer → Way P part m (Make queue) after_ask answer
+  by_making queue true is = absurd (cc)
+  by_making queue false is = way (Make queue) _ _ (ways.makes queue) is
+
+  by_holding : (queue : List ℕ) (count seconds : ℕ) → count ≤ 32 → (rows : List Message) → chosen part m queue count ≡ rows → made_by part m (holding part.next_receipt (after m seconds) rows) ≡ Makes after_ask answer → Way P part m (Take queue count seconds) after_ask answer
+  by_holding queue count seconds less [] is made = absurd (cc)
+  by_holding queue count seconds less (row ∷ rows) is made =
+      way (Take queue count seconds) _ _ (subst (λ (rs : List Message). P (Take queue count seconds) (map (hold (after m seconds)) (taken_items part.next_receipt rs)) (done.Taken (taken_items part.next_receipt rs))) is (ways.takes queue count seconds less)) made
+
+  by_clearing : (queue : List ℕ) (rows : List Message) → rows_of queue (live m part.rows) ≡ rows → made_by part m (clearing queue rows) ≡ Makes after_ask answer → Way P part m (Clear queue) after_ask answer
+  by_clearing queue [] is made = absurd (cc)
+  by_clearing queue (row ∷ rows) is made =
+      way (Clear queue) _ _ (subst (λ (rs : List Message). P (Clear queue) (EndRows (InQueue queue) endings.Deleted ∷ []) (done.Cleared (length rs))) is (ways.clears queue)) made
+
+  by_acting : (ask : Ask) → made_by part m (acting part ask m) ≡ Makes after_ask answer → Way P part m ask after_ask answer
+  unfolding acting
+  by_acting (Make queue) is = by_making queue (has_queue part.queues queue) is
+  by_acting (Put queue delay ttl text about) is =
+      let fits = accepted (put_rule part queue delay ttl text) _ is in
+      let short = short_text text (unbroken-head (text_rule text) (ttl_rule ttl ∷ delay_rule delay ttl ∷ queue_rule part queue ∷ []) fits.0).0 in
+      way (Put queue delay ttl text about) _ _ (ways.puts queue delay ttl text about short) fits.1
+  by_acting (Take queue count seconds) is =
+      let fits = accepted (take_rule part queue count seconds) _ is in
+      by_holding queue count seconds (few part queue count seconds fits.0) (chosen part m queue count) refl fits.1
+  by_acting (Update queue number receipt seconds text) is =
+      let fits = accepted (update_rule part m queue number receipt seconds text) _ is in
+      let short = short_new_text text (unbroken-head (new_text_rule text) (range_rule seconds 0 604800 ∷ message_rule part m queue number receipt ∷ []) fits.0).0 in
+      way (Update queue number receipt seconds text) _ _ (ways.updates queue number receipt seconds text short (named_by_update part m queue number receipt seconds text fits.0)) fits.1
+  by_acting (Delete queue number receipt) is =
+      let fits = accepted (message_rule part m queue number receipt) _ is in
+      way (Delete queue number receipt) _ _ (ways.deletes queue number receipt (named part m queue number receipt fits.0)) fits.1
+  by_acting (Clear queue) is =
+      by_clearing queue (rows_of queue (live m part.rows)) refl (accepted (queue_rule part queue) _ is).1
+  by_acting Sweep is = way Sweep _ _ ways.sweeps is
 
   -- so it holds of each outcome
-  pub by_ways : (ask : Ask) (made : Outcome) → outcome part ask m ≡ Ok made → P ask made
+  pub by_ways : (ask : Ask) → outcome part ask m ≡ Makes after_ask answer → Way P part m ask after_ask answer
   unfolding outcome
-  by_ways (Make queue) made is =
-      let made_is : making part m queue ≡ made = cc in
-      subst (P (Make queue)) made_is (by_making queue (has_queue part.queues queue))
-  by_ways (Put queue delay ttl text about) made is =
-      subst (P (Put queue delay ttl text about)) (accepted (put_rule part m queue delay ttl text) _ made is) (ways.puts queue delay ttl text about)
-  by_ways (Take queue count hold) made is =
-      subst (P (Take queue count hold)) (accepted (take_rule part queue count hold) _ made is) (by_holding queue count hold (chosen part m queue count) refl)
-  by_ways (Update queue number receipt hold text) made is =
-      let rule = update_rule part m queue number receipt hold text in
-      subst (P (Update queue number receipt hold text)) (accepted rule _ made is) (ways.updates queue number receipt hold text (named_by_update part m queue number receipt hold text (unbroken rule _ made is)))
-  by_ways (Delete queue number receipt) made is =
-      let rule = message_rule part m queue number receipt in
-      subst (P (Delete queue number receipt)) (accepted rule _ made is) (ways.deletes queue number receipt (named part m queue number receipt (unbroken rule _ made is)))
-  by_ways (Clear queue) made is =
-      subst (P (Clear queue)) (accepted (queue_rule part queue) _ made is) (by_clearing queue (rows_of queue (live m part.rows)) refl)
-  by_ways Sweep made is =
-      let made_is : (swept m part, done.Swept) ≡ made = cc in
-      subst (P Sweep) made_is ways.sweeps
+  by_ways ask is = by_acting ask is

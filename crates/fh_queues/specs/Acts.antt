@@ -1,57 +1,94 @@
--- What an ask makes of a message whose row stays.
-use Rattle.std.specs.Prelude.{◌≡◌, ℕ, ◌+◌, ◌==◌, Bool, false, true, if◌then◌else◌, List, Option, Some, None}
-use Rattle.fh_event.specs.declared.reply.Item.{Item}
+-- The acts of which each change of the queues is made.
+use Rattle.std.specs.Prelude.{ℕ, ◌+◌, ◌-◌, ◌==◌, Bool, false, not, if◌then◌else◌, List, [], ◌∷◌, ◌++◌, filter, fold, slice_set, Option, Some, None}
 use Rattle.fh_queues.specs.declared.row.Message.{Message}
-use Rattle.fh_queues.specs.declared.done.QueueDone.{QueueDone}
-use Rattle.fh_queues.specs.declared.done.QueueDone.TheVariants as done
-use Rattle.fh_queues.specs.Asks.{Ask, Make, Put, Take, Update, Delete, Clear, Sweep}
-use Rattle.fh_queues.specs.Receipts.{listed_item}
-use Rattle.fh_queues.specs.Rows.{is_visible, row_of}
-use Rattle.fh_queues.specs.Part.{QueuePart, after, held, renewed}
+use Rattle.fh_queues.specs.declared.done.Ending.{Ending}
+use Rattle.fh_queues.specs.declared.done.Ending.TheVariants.{Expired}
+use Rattle.fh_queues.specs.declared.act.NewMessage.{NewMessage}
+use Rattle.fh_queues.specs.declared.act.RowChange.{RowChange}
+use Rattle.fh_queues.specs.declared.act.Which.{Which}
+use Rattle.fh_queues.specs.declared.act.Which.TheVariants.{Dead, InQueue, Numbered}
+use Rattle.fh_queues.specs.declared.act.Act.{Act}
+use Rattle.fh_queues.specs.declared.act.Act.TheVariants.{AddQueue, AddRow, ChangeRow, EndRows}
+use Rattle.fh_queues.specs.Rows.{is_of, is_dead, with_change}
+use Rattle.fh_queues.specs.Part.{QueuePart}
 
--- held until then, where it was taken
-abbrev pub held_by : ℕ → Option Item → Message → Message
-held_by until None row = row
-held_by until (Some item) row = held until item row
+-- the row of a new message, with this number and receipt
+abbrev pub numbered : ℕ → ℕ → NewMessage → Message
+numbered number receipt new = record {
+  number = number;
+  queue = new.queue;
+  text = new.text;
+  put_at = new.put_at;
+  visible_at = new.visible_at;
+  expiry = new.expiry;
+  count = 0;
+  receipt = receipt;
+  held = false;
+  about = new.about;
+}
 
--- held anew with the receipt that is answered
-abbrev pub updated : ℕ → Option (List ℕ) → QueueDone → Message → Message
-updated until text done.Made row = row
-updated until text done.There row = row
-updated until text (done.Stored number receipt) row = row
-updated until text (done.Taken items) row = row
-updated until text done.Empty row = row
-updated until text (done.Updated receipt) row = renewed until receipt text row
-updated until text done.Deleted row = row
-updated until text (done.Cleared count) row = row
-updated until text done.Swept row = row
+abbrev pub text_or : Option (List ℕ) → List ℕ → List ℕ
+text_or None text = text
+text_or (Some new) text = new
 
--- the row after the ask: a take holds what it lists, an update holds what it names, and nothing else
--- changes a row
-abbrev pub acted : ℕ → Ask → QueueDone → Message → Message
-acted m (Make queue) answer row = row
-acted m (Put queue delay ttl text about) answer row = row
-acted m (Take queue count hold) answer row = held_by (after m hold) (listed_item answer row.number) row
-acted m (Update queue number receipt hold text) answer row =
-    if row.number == number then updated (after m hold) text answer row else row
-acted m (Delete queue number receipt) answer row = row
-acted m (Clear queue) answer row = row
-acted m Sweep answer row = row
+abbrev pub count_or : Option ℕ → ℕ → ℕ
+count_or None count = count
+count_or (Some new) count = new
 
--- the ask takes from the queue where the message is visible
-abbrev pub offers : ℕ → Ask → Message → Bool
-offers m (Make queue) row = false
-offers m (Put queue delay ttl text about) row = false
-offers m (Take queue count hold) row = is_visible queue m row
-offers m (Update queue number receipt hold text) row = false
-offers m (Delete queue number receipt) row = false
-offers m (Clear queue) row = false
-offers m Sweep row = false
+-- a row with another visible time and a new receipt, and the text and the count where there are any
+abbrev pub changed : ℕ → RowChange → Message → Message
+changed receipt change row = record row {
+  text = text_or change.text row.text;
+  visible_at = change.visible_at;
+  count = count_or change.count row.count;
+  receipt = receipt;
+  held = change.held;
+}
 
--- the item is a visible message of the queue, with its text, taken once more
-pub record IsTakenFrom (part : QueuePart) (m : ℕ) (ask : Ask) (item : Item) : Type 0 where
-  pub row : Message
-  pub stands : row_of item.number part.rows ≡ Some row
-  pub visible : offers m ask row ≡ true
-  pub count : item.count ≡ row.count + 1
-  pub text : item.text ≡ row.text
+abbrev pub is_one : Which → Message → Bool
+is_one (Dead m) row = is_dead m row
+is_one (InQueue queue) row = is_of queue row
+is_one (Numbered number) row = row.number == number
+
+-- the message of a row has ended so
+abbrev pub with_end : Ending → List (Option Ending) → Message → List (Option Ending)
+with_end ending ends row = slice_set ends (row.number - 1) (Some ending)
+
+-- the rows of these are gone, and their messages have ended so
+abbrev pub with_ends : Which → Ending → QueuePart → QueuePart
+with_ends which ending part = record part {
+  rows = filter (λ row. not (is_one which row)) part.rows;
+  ends = fold (with_end ending) part.ends (filter (is_one which) part.rows);
+}
+
+abbrev pub with_queue : List ℕ → QueuePart → QueuePart
+with_queue queue part = record part { queues = part.queues ++ queue ∷ [] }
+
+-- a new row has the next number and receipt
+abbrev pub with_row : NewMessage → QueuePart → QueuePart
+with_row new part = record part {
+  rows = part.rows ++ numbered part.next_number part.next_receipt new ∷ [];
+  ends = part.ends ++ None ∷ [];
+  next_number = part.next_number + 1;
+  next_receipt = part.next_receipt + 1;
+}
+
+-- a row that changes has the next receipt
+abbrev pub with_row_change : ℕ → RowChange → QueuePart → QueuePart
+with_row_change number change part = record part {
+  rows = with_change number (changed part.next_receipt change) part.rows;
+  next_receipt = part.next_receipt + 1;
+}
+
+unfoldable pub acted : QueuePart → Act → QueuePart
+acted part (AddQueue queue) = with_queue queue part
+acted part (AddRow new) = with_row new part
+acted part (ChangeRow number change) = with_row_change number change part
+acted part (EndRows which ending) = with_ends which ending part
+
+abbrev pub by_acts : QueuePart → List Act → QueuePart
+by_acts part acts = fold acted part acts
+
+-- the rows that aren't live are gone, and have expired
+abbrev pub sweep : ℕ → Act
+sweep m = EndRows (Dead m) Expired

@@ -1,65 +1,54 @@
 -- Changes of the queues, planned and staged.
-use Rattle.std.specs.Prelude.{◌≡◌, ℕ, ◌+◌, ◌<◌, ◌≤◌, ◌^◌, length, Option, Some, None, Ok}
-use Rattle.fh_queues.specs.declared.row.Message.{Message}
-use Rattle.fh_queues.specs.declared.done.QueueDone.TheVariants as done
-use Rattle.fh_queues.specs.declared.done.Ending.TheVariants as endings
-use Rattle.fh_queues.specs.declared.change.Edit.{Edit}
-use Rattle.fh_queues.specs.declared.change.Edit.TheVariants.{Make, LeaveThere, Put, Hold, LeaveEmpty, Renew, Delete, Clear, Sweep}
+use Rattle.std.specs.Prelude.{◌≡◌, ℕ, ◌<◌, ◌≤◌, ◌^◌, List, [], ◌∷◌, length, Option, Some, None}
+use Rattle.fh_event.specs.Judging.{Quiets, Makes}
+use Rattle.fh_queues.specs.declared.act.Act.{Act}
+use Rattle.fh_queues.specs.declared.done.QueueDone.{QueueDone}
 use Rattle.fh_queues.specs.Asks.{Ask}
-use Rattle.fh_queues.specs.Part.{QueuePart, swept, with_queue, with_row, with_items, with_renewal, with_end, cleared}
+use Rattle.fh_queues.specs.Part.{QueuePart}
+use Rattle.fh_queues.specs.Acts.{by_acts}
 use Rattle.fh_queues.specs.Outcome.{Outcome, outcome}
 
--- what the queues hold: their part of the world, the row of a put that is staged, and the room that is left
+-- what the queues hold: their part of the world, the acts of a change that is staged, and the room that is left
 pub record QueueState : Type 0 where
   pub part : QueuePart
-  pub ahead : Option Message
+  pub ahead : Option (List Act)
   pub queue_room : ℕ
   pub row_room : ℕ
   pub end_room : ℕ
 
+-- the acts of a change, from the sweep on, and its answer; a quiet one has none
 pub record Change : Type 0 where
-  pub moment : ℕ
-  pub row : Option Message
-  pub edit : Edit
+  pub acts : List Act
+  pub done : QueueDone
 
 pub record Staged : Type 0 where
-  pub moment : ℕ
-  pub edit : Edit
+  pub done : QueueDone
 
--- a put always has its row
-abbrev pub with_put : QueuePart → ℕ → Option Message → Outcome
-with_put part m None = (swept m part, done.Swept)
-with_put part m (Some row) = (with_row row (swept m part), done.Stored row.number row.receipt)
-
--- the part after an edit, and what is answered
-abbrev pub edited : QueuePart → Option Message → ℕ → Edit → Outcome
-edited part row m (Make queue) = (with_queue queue (swept m part), done.Made)
-edited part row m LeaveThere = (part, done.There)
-edited part row m Put = with_put part m row
-edited part row m (Hold until items) = (with_items until items (swept m part), done.Taken items)
-edited part row m LeaveEmpty = (part, done.Empty)
-edited part row m (Renew number until text) =
-    (with_renewal number until text (swept m part), done.Updated part.next_receipt)
-edited part row m (Delete number) = (with_end number endings.Deleted (swept m part), done.Deleted)
-edited part row m (Clear queue count) = (cleared queue (swept m part), done.Cleared count)
-edited part row m Sweep = (swept m part, done.Swept)
+-- what a change comes to
+abbrev pub judged : QueuePart → List Act → QueueDone → Outcome
+judged part [] answer = Quiets answer
+judged part (act ∷ acts) answer = Makes (by_acts part (act ∷ acts)) answer
 
 abbrev pub planned : QueuePart → Change → Outcome
-planned part change = edited part change.row change.moment change.edit
+planned part change = judged part change.acts change.done
+
+abbrev pub acts_in : Option (List Act) → List Act
+acts_in None = []
+acts_in (Some acts) = acts
 
 -- what settling a staged change makes
-abbrev pub made : QueueState → Staged → Outcome
-made state staged = edited state.part state.ahead staged.moment staged.edit
+abbrev pub made : QueueState → Staged → QueuePart × QueueDone
+made state staged = (by_acts state.part (acts_in state.ahead), staged.done)
 
 -- the counters are far from their ends
 abbrev pub HasNumbers : QueuePart → Type 0
 HasNumbers part = (part.next_number < 2 ^ 63) × (part.next_receipt < 2 ^ 63)
 
--- some ask has this outcome
-pub record IsOutcome (part : QueuePart) (made : Outcome) : Type 0 where
+-- some ask makes this of the part
+pub record IsOutcome (part : QueuePart) (made : QueuePart × QueueDone) : Type 0 where
   pub ask : Ask
   pub moment : ℕ
-  pub is : outcome part ask moment ≡ Ok made
+  pub is : outcome part ask moment ≡ Makes made.0 made.1
 
 -- no change is staged
 abbrev pub IsIdle : QueueState → Type 0
@@ -69,6 +58,6 @@ IsIdle state = state.ahead ≡ None
 pub record IsStaged (state : QueueState) (staged : Staged) : Type 0 where
   pub numbers : HasNumbers state.part
   pub planned : IsOutcome state.part (made state staged)
-  pub queues : 1 ≤ state.queue_room
-  pub rows : 1 ≤ state.row_room
-  pub ends : length state.part.rows + 1 ≤ state.end_room
+  pub queues : length (acts_in state.ahead) ≤ state.queue_room
+  pub rows : length (acts_in state.ahead) ≤ state.row_room
+  pub ends : length (acts_in state.ahead) ≤ state.end_room

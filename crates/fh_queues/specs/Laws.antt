@@ -1,83 +1,83 @@
--- Laws of all histories, by what was asked and answered.
-use Rattle.std.specs.Prelude.{◌≡◌, ℕ, ◌+◌, ◌<◌, ◌≤◌, ◌||◌, ◌↔◌, true, false, List, None, Some, Ok}
+-- Laws of each ask that changes something.
+use Rattle.std.specs.Prelude.{◌≡◌, ℕ, ◌+◌, ◌<◌, ◌≤◌, nat_le, nat_lt, ◌&&◌, ◌↔◌, if◌then◌else◌, true, false, List, length, Some, None, IfSome, ⊤}
 use Rattle.fh_event.specs.declared.reply.Item.{Item}
 use Rattle.fh_event.specs.declared.reply.Place.TheVariants as place
+use Rattle.fh_event.specs.Judging.{Makes}
 use Rattle.fh_queues.specs.declared.row.Message.{Message}
-use Rattle.fh_queues.specs.declared.done.End.{End}
-use Rattle.fh_queues.specs.Asks.{Ask}
-use Rattle.fh_queues.specs.Rows.{is_live, row_of}
+use Rattle.fh_queues.specs.declared.done.QueueDone.{QueueDone}
+use Rattle.fh_queues.specs.Asks.{Ask, Put, Take, Update}
+use Rattle.fh_queues.specs.Rows.{is_live, is_visible, row_of}
 use Rattle.fh_queues.specs.Part.{QueuePart}
-use Rattle.fh_queues.specs.Outcome.{Outcome, outcome}
-use Rattle.fh_queues.specs.Places.{end_of, place_of}
-use Rattle.fh_queues.specs.Order.{are_rising}
-use Rattle.fh_queues.specs.Accounts.{standing, gone}
-use Rattle.fh_queues.specs.Receipts.{listed_item, touches, Rises}
-use Rattle.fh_queues.specs.Acts.{acted, IsTakenFrom}
-use Rattle.fh_queues.specs.Ends.{was_deleted, was_expired, deletes, lapses}
-use Rattle.fh_queues.specs.Histories.{Asked, part_after, answers, births}
+use Rattle.fh_queues.specs.Outcome.{outcome}
+use Rattle.fh_queues.specs.Seen.{Stands, seen}
+use Rattle.fh_queues.specs.Places.{place_of}
+use Rattle.fh_queues.specs.Whole.{IsWhole}
+use Rattle.fh_queues.specs.Receipts.{born, given, listed_item, touches, Rises}
+use Rattle.fh_queues.specs.Goings.{goes_on}
 
--- numbers are given from 1 on, each once and none left out
-abbrev pub IsGivenInTurn : List Asked → ℕ → Type 0
-IsGivenInTurn history n =
-    (births n (answers history) ≡ 1) ↔ ((1 ≤ n) × (n < (part_after history).next_number))
-
--- a message that was put is one row or has one end, and no other number has either
-pub record IsInOnePlace (history : List Asked) (n : ℕ) : Type 0 where
-  pub born_once : births n (answers history) ≤ 1
-  pub one_place :
-      births n (answers history)
-      ≡ standing n (part_after history).rows + gone n (part_after history).ends
-
--- a message was put where it is somewhere, at each moment
-abbrev pub IsKnownByBirth : List Asked → ℕ → ℕ → Type 0
-IsKnownByBirth history n m =
-    (births n (answers history) ≡ 0) ↔ (place_of (part_after history) n m ≡ place.Unknown)
-
--- rows stand in order of number, so that the first visible ones are the oldest
-abbrev pub IsOldestFirst : List Asked → Type 0
-IsOldestFirst history = are_rising 0 (part_after history).rows ≡ true
-
--- what holds of each ask that isn't refused, after any history
-abbrev pub OfEachAsk : (QueuePart → Ask → ℕ → Outcome → Type 0) → Type 0
+-- what holds of each ask that changes a whole part, by the part before, the moment, the part after and the answer
+abbrev pub OfEachAsk : (QueuePart → ℕ → Ask → QueuePart → QueueDone → Type 0) → Type 0
 OfEachAsk Holds =
-    (history : List Asked) (ask : Ask) (m : ℕ) (made : Outcome)
-    → outcome (part_after history) ask m ≡ Ok made → Holds (part_after history) ask m made
+    (part : QueuePart) (ask : Ask) (m : ℕ) (after : QueuePart) (answer : QueueDone)
+    → IsWhole part → outcome part ask m ≡ Makes after answer → Holds part m ask after answer
 
--- a live row that the ask doesn't touch stands unchanged
-abbrev pub KeepsUntouched : QueuePart → Ask → ℕ → Outcome → Type 0
-KeepsUntouched part ask m made =
-    (row : Message) → row_of row.number part.rows ≡ Some row → is_live m row ≡ true
-    → touches m ask made.1 row ≡ false → row_of row.number made.0.rows ≡ Some row
+abbrev pub StaysWhole : QueuePart → ℕ → Ask → QueuePart → QueueDone → Type 0
+StaysWhole part m ask after answer = IsWhole after
+
+-- counters only rise, and one number and 32 receipts at most are given
+pub record MovesLittle (part : QueuePart) (m : ℕ) (ask : Ask) (after : QueuePart) (answer : QueueDone) : Type 0 where
+  pub numbers : part.next_number ≤ after.next_number
+  pub receipts : part.next_receipt ≤ after.next_receipt
+  pub number : after.next_number ≤ part.next_number + 1
+  pub receipt : after.next_receipt ≤ part.next_receipt + 32
+
+-- each message is what the ask and its answer make of it
+abbrev pub GoesOnAsAnswered : QueuePart → ℕ → Ask → QueuePart → QueueDone → Type 0
+GoesOnAsAnswered part m ask after answer = (n : ℕ) → seen n after ≡ goes_on m ask answer n (seen n part)
+
+-- the numbers that the answer gives are those from the next one before to the next one after
+abbrev pub GivesNumbersInTurn : QueuePart → ℕ → Ask → QueuePart → QueueDone → Type 0
+GivesNumbersInTurn part m ask after answer =
+    (n : ℕ) → born n answer ≡ (nat_le part.next_number n && nat_lt n after.next_number)
+
+-- so are the receipts, each given once
+abbrev pub GivesReceiptsInTurn : QueuePart → ℕ → Ask → QueuePart → QueueDone → Type 0
+GivesReceiptsInTurn part m ask after answer =
+    (k : ℕ) → given k answer ≡ (if nat_le part.next_receipt k && nat_lt k after.next_receipt then 1 else 0)
+
+-- a live message that the ask doesn't touch stands unchanged
+abbrev pub KeepsUntouched : QueuePart → ℕ → Ask → QueuePart → QueueDone → Type 0
+KeepsUntouched part m ask after answer =
+    (row : Message) → seen row.number part ≡ Stands row → is_live m row ≡ true
+    → touches m ask answer row ≡ false → seen row.number after ≡ Stands row
 
 -- a row that isn't the same afterwards has a newer receipt
-abbrev pub RaisesReceipts : QueuePart → Ask → ℕ → Outcome → Type 0
-RaisesReceipts part ask m made =
-    (n : ℕ) (before after : Message) → row_of n part.rows ≡ Some before → row_of n made.0.rows ≡ Some after
-    → Rises before after
+abbrev pub RaisesReceipts : QueuePart → ℕ → Ask → QueuePart → QueueDone → Type 0
+RaisesReceipts part m ask after answer =
+    (n : ℕ) (before later : Message) → seen n part ≡ Stands before → seen n after ≡ Stands later
+    → Rises before later
 
--- no end is changed or taken away
-abbrev pub KeepsEnds : QueuePart → Ask → ℕ → Outcome → Type 0
-KeepsEnds part ask m made = (n : ℕ) (e : End) → end_of n part.ends ≡ Some e → end_of n made.0.ends ≡ Some e
+-- the item is a visible message of the queue, with its text, taken once more
+pub record IsTakenFrom (part : QueuePart) (m : ℕ) (queue : List ℕ) (item : Item) : Type 0 where
+  pub row : Message
+  pub stands : row_of item.number part.rows ≡ Some row
+  pub visible : is_visible queue m row ≡ true
+  pub count : item.count ≡ row.count + 1
+  pub text : item.text ≡ row.text
 
--- the messages that are deleted are those that the ask deletes, which had no end before
-abbrev pub DeletesAsAsked : QueuePart → Ask → ℕ → Outcome → Type 0
-DeletesAsAsked part ask m made =
-    (n : ℕ) → (was_deleted n made.0.ends ≡ (was_deleted n part.ends || deletes n part m ask))
-    × (deletes n part m ask ≡ true → end_of n part.ends ≡ None)
+-- only a take lists messages, and those were visible in its queue
+abbrev pub TakesVisible : QueuePart → ℕ → Ask → QueuePart → QueueDone → Type 0
+TakesVisible part m (Take queue count hold) after answer =
+    (n : ℕ) (item : Item) → listed_item answer n ≡ Some item → IsTakenFrom part m queue item
+TakesVisible part m ask after answer = (n : ℕ) → listed_item answer n ≡ None
 
--- the messages that expire are those whose rows aren't live, which had no end before
-abbrev pub ExpiresAtEnd : QueuePart → Ask → ℕ → Outcome → Type 0
-ExpiresAtEnd part ask m made =
-    (n : ℕ) → (was_expired n made.0.ends ≡ (was_expired n part.ends || lapses n part m made))
-    × (lapses n part m made ≡ true → end_of n part.ends ≡ None)
+-- no text of the ask is longer than a message
+abbrev pub HasShortTexts : QueuePart → ℕ → Ask → QueuePart → QueueDone → Type 0
+HasShortTexts part m (Put queue delay ttl text about) after answer = length text ≤ 65536
+HasShortTexts part m (Update queue number receipt hold text) after answer = IfSome text (λ t. length t ≤ 65536)
+HasShortTexts part m ask after answer = ⊤
 
--- a row that stays is what the ask and its answer make of it
-abbrev pub ActsAsAnswered : QueuePart → Ask → ℕ → Outcome → Type 0
-ActsAsAnswered part ask m made =
-    (n : ℕ) (before after : Message) → row_of n part.rows ≡ Some before → row_of n made.0.rows ≡ Some after
-    → after ≡ acted m ask made.1 before
-
--- what is listed as taken was visible
-abbrev pub TakesVisible : QueuePart → Ask → ℕ → Outcome → Type 0
-TakesVisible part ask m made =
-    (n : ℕ) (item : Item) → listed_item made.1 n ≡ Some item → IsTakenFrom part m ask item
+-- a message has a place at every moment exactly where its number was given
+abbrev pub IsKnownByNumber : QueuePart → Type 0
+IsKnownByNumber part =
+    (n m : ℕ) → (place_of part n m ≡ place.Unknown) ↔ ((1 ≤ n) × (n < part.next_number) → ⊥)

@@ -1,13 +1,13 @@
--- Where a message is.
-use Rattle.std.specs.Prelude.{ℕ, ◌==◌, nat_lt, ◌&&◌, if◌then◌else◌, List, find, Option, Some, None}
+-- What is answered of a message.
+use Rattle.std.specs.Prelude.{ℕ, nat_lt, ◌&&◌, if◌then◌else◌}
 use Rattle.fh_event.specs.declared.reply.Place.{Place}
 use Rattle.fh_event.specs.declared.reply.Place.TheVariants as place
 use Rattle.fh_queues.specs.declared.row.Message.{Message}
-use Rattle.fh_queues.specs.declared.done.End.{End}
 use Rattle.fh_queues.specs.declared.done.Ending.{Ending}
 use Rattle.fh_queues.specs.declared.done.Ending.TheVariants.{Deleted, Completed, Moved, Expired}
-use Rattle.fh_queues.specs.Rows.{is_live, row_of}
+use Rattle.fh_queues.specs.Rows.{is_live}
 use Rattle.fh_queues.specs.Part.{QueuePart}
+use Rattle.fh_queues.specs.Seen.{Seen, Unborn, Stands, Ended, seen}
 
 -- held before its visible time, where the last change of its visibility was a hold
 abbrev pub place_of_live : ℕ → Message → Place
@@ -23,17 +23,10 @@ place_of_ending (Completed invocation) = place.Completed invocation
 place_of_ending (Moved copy) = place.Moved copy
 place_of_ending Expired = place.Expired
 
-abbrev pub end_of : ℕ → List End → Option End
-end_of number ends = find (λ e. e.number == number) ends
-
--- a number without an end was never given
-abbrev pub place_of_gone : Option End → Place
-place_of_gone None = place.Unknown
-place_of_gone (Some e) = place_of_ending e.ending
-
-abbrev pub place_by : ℕ → Option Message → Option End → Place
-place_by m None e = place_of_gone e
-place_by m (Some row) e = place_of_row m row
+abbrev pub place_by : ℕ → Seen → Place
+place_by m Unborn = place.Unknown
+place_by m (Stands row) = place_of_row m row
+place_by m (Ended ending) = place_of_ending ending
 
 abbrev pub place_of : QueuePart → ℕ → ℕ → Place
-place_of part number m = place_by m (row_of number part.rows) (end_of number part.ends)
+place_of part number m = place_by m (seen number part)

@@ -50,11 +50,6 @@ with_change number change [] = []
 with_change number change (row ∷ rows) =
     if row.number == number then change row ∷ rows else row ∷ with_change number change rows
 
--- the row of this number is gone
-abbrev pub without : ℕ → List Message → List Message
-without number [] = []
-without number (row ∷ rows) = if row.number == number then rows else row ∷ without number rows
-
 -- the first row of this number stands at this place, or none has the number
 abbrev pub IsPlaceOf : ℕ → List Message → Option ℕ → Type 0
 IsPlaceOf number rows None = AllWithin (λ row. (row.number == number) ≡ false) rows 0 (length rows)

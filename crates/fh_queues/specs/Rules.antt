@@ -49,10 +49,9 @@ abbrev pub store_rule : QueuePart → ℕ → Option Rule
 store_rule part m =
     if nat_le 100000 (length (live m part.rows)) then Some (StoreFull (length (live m part.rows))) else None
 
-abbrev pub put_rule : QueuePart → ℕ → List ℕ → ℕ → Option ℕ → List ℕ → Option Rule
-put_rule part m queue delay ttl text =
-    first_broken
-    (text_rule text ∷ ttl_rule ttl ∷ delay_rule delay ttl ∷ queue_rule part queue ∷ store_rule part m ∷ [])
+abbrev pub put_rule : QueuePart → List ℕ → ℕ → Option ℕ → List ℕ → Option Rule
+put_rule part queue delay ttl text =
+    first_broken (text_rule text ∷ ttl_rule ttl ∷ delay_rule delay ttl ∷ queue_rule part queue ∷ [])
 
 abbrev pub take_rule : QueuePart → List ℕ → ℕ → ℕ → Option Rule
 take_rule part queue count hold =

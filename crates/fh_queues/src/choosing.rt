@@ -2,9 +2,8 @@
 ghost use Rattle.std.specs.Prelude.{◌≡◌, ◌<◌, ◌^◌, ◌+◌, ◌-◌, ◌≤◌, map, take, nat_lt, length, true, IfOk};
 ghost use Rattle.std.specs.List.{list_all};
 ghost use Rattle.fh_queues.specs.Rows.{visible};
-ghost use Rattle.fh_queues.specs.Part.{taken_items};
-ghost use Rattle.fh_queues.specs.Outcome.{peeked_item};
-ghost use Rattle.fh_queues.specs.Sound.{is_counted};
+ghost use Rattle.fh_queues.specs.Outcome.{taken_items, peeked_item};
+ghost use Rattle.fh_queues.specs.Whole.{is_counted};
 
 use crate::Message;
 use fh_base::{Moment, NoMemory, QueueName};

@@ -1,4 +1,4 @@
-// What the queues answer, and the ends of messages.
+// What the queues answer, and how messages end.
 use fh_event::Items;
 
 /// How a message went.
@@ -11,13 +11,6 @@ pub enum Ending {
     /// Moved into a poison queue, as that message.
     Moved { copy: u64 },
     Expired,
-}
-
-/// The end of the message of that number.
-#[derive(Clone, Copy, Debug, PartialEq, Eq)]
-pub struct End {
-    pub number: u64,
-    pub ending: Ending,
 }
 
 /// What was done.

@@ -1,39 +1,37 @@
-//! What holds of the queues after any list of asks, from no queues on. What is refused changes nothing.
+//! What holds of each ask that changes something, where the part before is whole. The first law carries that
+//! over every list of asks, from no queues on.
 
-ghost use Rattle.std.specs.Prelude.{ℕ, ◌≤◌, List};
-ghost use Rattle.fh_queues.specs.Part.{QueuePart};
-ghost use Rattle.fh_queues.specs.Sound.{IsSound};
-ghost use Rattle.fh_queues.specs.Histories.{Asked, part_after, answers, receipts};
-ghost use Rattle.fh_queues.specs.Laws.{IsGivenInTurn, IsInOnePlace, IsKnownByBirth, IsOldestFirst, OfEachAsk, KeepsUntouched, RaisesReceipts, KeepsEnds, DeletesAsAsked, ExpiresAtEnd, ActsAsAnswered, TakesVisible};
+ghost use Rattle.fh_queues.specs.Part.{QueuePart, no_queues};
+ghost use Rattle.fh_queues.specs.Whole.{IsWhole};
+ghost use Rattle.fh_queues.specs.Tellings.{TellsOfMessages};
+ghost use Rattle.fh_queues.specs.Laws.{OfEachAsk, StaysWhole, MovesLittle, GoesOnAsAnswered, GivesNumbersInTurn, GivesReceiptsInTurn, KeepsUntouched, RaisesReceipts, TakesVisible, HasShortTexts, IsKnownByNumber};
 
-/// Messages are numbered from 1 on, each number once and none left out.
+/// Rows stand in order of number, a count is at most its receipt, and a message whose number was given
+/// has a row or has ended, and not both.
+pub fn parts_stay_whole()
+    ensures none { IsWhole no_queues }
+    ensures each { OfEachAsk StaysWhole }
+{}
+
+/// One number and 32 receipts are given at once, at most.
+pub fn counters_move_little()
+    ensures { OfEachAsk MovesLittle }
+{}
+
+/// A message whose row isn't live expires, a live one is changed or deleted as the ask and its answer say,
+/// only a put makes one, and an end stays.
+pub fn messages_go_on_as_answered()
+    ensures { OfEachAsk GoesOnAsAnswered }
+{}
+
+/// Messages are numbered from 1 on, each number given once and none left out.
 pub fn numbers_are_given_in_turn()
-    ensures { (history : List Asked) (n : ℕ) → IsGivenInTurn history n }
+    ensures { OfEachAsk GivesNumbersInTurn }
 {}
 
-/// A receipt is given out once.
-pub fn receipts_are_given_once()
-    ensures { (history : List Asked) (k : ℕ) → receipts k (answers history) ≤ 1 }
-{}
-
-/// A message that was put is one row or has one end, and nothing else is or has.
-pub fn messages_are_in_one_place()
-    ensures { (history : List Asked) (n : ℕ) → IsInOnePlace history n }
-{}
-
-/// A message has a place at every moment exactly where it was put.
-pub fn places_are_known()
-    ensures { (history : List Asked) (n m : ℕ) → IsKnownByBirth history n m }
-{}
-
-/// Rows stand in order of number.
-pub fn rows_are_in_order()
-    ensures { (history : List Asked) → IsOldestFirst history }
-{}
-
-/// The count of a message is at most its receipt, which is below the next one.
-pub fn counts_stay_below_receipts()
-    ensures { (history : List Asked) → IsSound (part_after history) }
+/// Receipts are given from 1 on, each once and none left out.
+pub fn receipts_are_given_in_turn()
+    ensures { OfEachAsk GivesReceiptsInTurn }
 {}
 
 /// No old receipt changes a message: a live one stays as it is, unless a take of its queue lists
@@ -47,28 +45,23 @@ pub fn receipts_only_rise()
     ensures { OfEachAsk RaisesReceipts }
 {}
 
-/// The end of a message is never changed or taken away.
-pub fn ends_are_kept()
-    ensures { OfEachAsk KeepsEnds }
-{}
-
-/// A message was deleted exactly where a delete named it, or a clear found it live in its queue.
-pub fn deletions_are_asked_for()
-    ensures { OfEachAsk DeletesAsAsked }
-{}
-
-/// A message has expired exactly where something changed while its row was there and not live.
-pub fn expiries_come_at_the_end()
-    ensures { OfEachAsk ExpiresAtEnd }
-{}
-
-/// A message that stays is what the ask and its answer say: a take holds what it lists and counts
-/// it, an update holds what it names with its new text, and nothing else changes a message.
-pub fn messages_change_as_answered()
-    ensures { OfEachAsk ActsAsAnswered }
-{}
-
 /// What a take lists was visible in its queue, and has its text and one more count.
 pub fn takes_list_visible_messages()
     ensures { OfEachAsk TakesVisible }
+{}
+
+/// A message has a place at every moment exactly where its number was given.
+pub fn places_are_known()
+    ensures { (part : QueuePart) → IsWhole part → IsKnownByNumber part }
+{}
+
+/// What an ask and its answer tell of a message is what becomes of its row: who is held or removed has a
+/// row, a put's message is new, and a row goes on with its queue and its expiry, and the newest hold.
+pub fn messages_are_as_told()
+    ensures { OfEachAsk TellsOfMessages }
+{}
+
+/// No text that is taken in is longer than a message.
+pub fn texts_are_short()
+    ensures { OfEachAsk HasShortTexts }
 {}

@@ -1,20 +1,20 @@
-// The lists by which the queues are kept, and how each change is made in them. No change takes memory.
-ghost use Rattle.std.specs.Prelude.{◌≡◌, ◌+◌, ◌-◌, ◌<◌, ◌≤◌, ◌^◌, length, Option, vec_len, vec_capacity};
-ghost use Rattle.fh_queues.specs.Part.{no_queues, swept, with_queue, with_row, with_items, with_renewal, with_end, cleared, rows_of};
-ghost use Rattle.fh_queues.specs.Edits.{edited, HasNumbers};
-ghost use Rattle.fh_queues.specs.Lists.{part_of, end_room};
+// The lists by which the queues are kept, and how each act changes them. No act takes memory.
+ghost use Rattle.std.specs.Prelude.{◌≡◌, ℕ, ◌+◌, ◌<◌, ◌≤◌, ◌^◌, length};
+ghost use Rattle.fh_queues.specs.Part.{no_queues};
+ghost use Rattle.fh_queues.specs.Acts.{acted, by_acts, with_queue, with_row, with_row_change, with_ends};
+ghost use Rattle.fh_queues.specs.Lists.{part_of, HasRoom};
 
-use crate::change::Edit;
-use crate::{End, Ending, Message, QueueDone, rows};
-use fh_base::{Moment, QueueName};
-use fh_event::{Item, Text};
+use crate::act::{Act, NewMessage, RowChange, Which};
+use crate::{Ending, Message, rows};
+use fh_base::QueueName;
 use std::alloc::Global;
 
 #[derive(Drop)]
 pub(crate) struct Lists {
     pub(crate) queues: Vec<QueueName>,
     pub(crate) rows: Vec<Message>,
-    pub(crate) ends: Vec<End>,
+    // By number, from 1 on.
+    pub(crate) ends: Vec<Option<Ending>>,
     pub(crate) next_number: u64,
     pub(crate) next_receipt: u64,
 }
@@ -32,128 +32,91 @@ impl Lists {
         }
     }
 
-    /// Makes an edit, with the row of a put. There has to be room for one more queue and row, and for the
-    /// end of each row and of that one.
-    pub(crate) fn edit(&mut self, row: Option<Message>, m: Moment, edit: Edit) -> QueueDone
-        requires numbers { HasNumbers (part_of self.old) }
-        requires queues { vec_len self.old.queues + 1 ≤ vec_capacity self.old.queues }
-        requires rows { vec_len self.old.rows + 1 ≤ vec_capacity self.old.rows }
-        requires ends { vec_len self.old.rows + 1 ≤ end_room self.old }
-        ensures part { part_of self.new ≡ (edited (part_of self.old) row m edit).0 }
-        ensures done { result ≡ (edited (part_of self.old) row m edit).1 }
+    /// Does the acts in order. There has to be room for them.
+    pub(crate) fn act_all(&mut self, acts: Vec<Act>)
+        requires room { HasRoom self.old (length acts.items) }
+        requires numbers { self.old.next_number + length acts.items < 2 ^ 64 }
+        requires receipts { self.old.next_receipt + length acts.items < 2 ^ 64 }
+        ensures { part_of self.new ≡ by_acts (part_of self.old) acts.items }
     {
-        match edit {
-            Edit::LeaveThere => QueueDone::There,
-            Edit::LeaveEmpty => QueueDone::Empty,
-            Edit::Make { queue } => {
-                self.sweep(m);
-                self.make(queue)
-            }
-            Edit::Put => {
-                self.sweep(m);
-                match row {
-                    None => QueueDone::Swept,
-                    Some(row) => self.put(row),
-                }
-            }
-            Edit::Hold { until, items } => {
-                self.sweep(m);
-                self.hold(until, items.as_slice());
-                QueueDone::Taken { items }
-            }
-            Edit::Renew {
-                number,
-                until,
-                text,
-            } => {
-                self.sweep(m);
-                self.renew(number, until, text)
-            }
-            Edit::Delete { number } => {
-                self.sweep(m);
-                self.delete(number)
-            }
-            Edit::Clear { queue, count } => {
-                self.sweep(m);
-                self.clear(&queue);
-                QueueDone::Cleared { count }
-            }
-            Edit::Sweep => {
-                self.sweep(m);
-                QueueDone::Swept
-            }
+        for act in acts {
+            self.act(act);
         }
     }
 
-    fn sweep(&mut self, m: Moment)
-        requires { vec_len self.old.rows + 1 ≤ end_room self.old }
-        ensures part { part_of self.new ≡ swept m (part_of self.old) }
-        ensures queues { self.new.queues ≡ self.old.queues }
-        ensures rows { vec_len self.new.rows ≤ vec_len self.old.rows }
-        ensures row_room { vec_capacity self.new.rows ≡ vec_capacity self.old.rows }
-        ensures ends { vec_len self.new.rows + 1 ≤ end_room self.new }
+    #[tactic(auto, unfolding(crate::specs::Acts::acted))]
+    fn act(&mut self, act: Act)
+        requires room { HasRoom self.old 1 }
+        requires numbers { self.old.next_number + 1 < 2 ^ 64 }
+        requires receipts { self.old.next_receipt + 1 < 2 ^ 64 }
+        ensures part { part_of self.new ≡ acted (part_of self.old) act }
+        ensures room { (k : ℕ) → HasRoom self.old (k + 1) → HasRoom self.new k }
+        ensures number { self.new.next_number ≤ self.old.next_number + 1 }
+        ensures receipt { self.new.next_receipt ≤ self.old.next_receipt + 1 }
     {
-        rows::sweep(&mut self.rows, &mut self.ends, m);
+        match act {
+            Act::AddQueue { queue } => self.add_queue(queue),
+            Act::AddRow { new } => self.add_row(new),
+            Act::ChangeRow { number, change } => self.change_row(number, change),
+            Act::EndRows { which, ending } => self.end_rows(&which, ending),
+        }
     }
 
-    fn make(&mut self, queue: QueueName) -> QueueDone
-        requires { vec_len self.old.queues + 1 ≤ vec_capacity self.old.queues }
+    fn add_queue(&mut self, queue: QueueName)
+        requires room { HasRoom self.old 1 }
         ensures part { part_of self.new ≡ with_queue queue (part_of self.old) }
-        ensures done { result ≡ QueueDone.Made }
+        ensures room { (k : ℕ) → HasRoom self.old (k + 1) → HasRoom self.new k }
     {
         let _added = self.queues.push(queue);
-        QueueDone::Made
     }
 
-    fn put(&mut self, row: Message) -> QueueDone
-        requires numbers { HasNumbers (part_of self.old) }
-        requires rows { vec_len self.old.rows + 1 ≤ vec_capacity self.old.rows }
-        ensures part { part_of self.new ≡ with_row row (part_of self.old) }
-        ensures done { result ≡ QueueDone.Stored row.number row.receipt }
+    fn add_row(&mut self, new: NewMessage)
+        requires room { HasRoom self.old 1 }
+        requires numbers { self.old.next_number + 1 < 2 ^ 64 }
+        requires receipts { self.old.next_receipt + 1 < 2 ^ 64 }
+        ensures part { part_of self.new ≡ with_row new (part_of self.old) }
+        ensures room { (k : ℕ) → HasRoom self.old (k + 1) → HasRoom self.new k }
     {
-        let done = QueueDone::Stored {
-            number: row.number,
-            receipt: row.receipt,
+        let NewMessage {
+            queue,
+            text,
+            put_at,
+            visible_at,
+            expiry,
+            about,
+        } = new;
+        let row = Message {
+            number: self.next_number,
+            queue,
+            text,
+            put_at,
+            visible_at,
+            expiry,
+            count: 0,
+            receipt: self.next_receipt,
+            held: false,
+            about,
         };
         let _added = self.rows.push(row);
+        let _stands = self.ends.push(None);
         self.next_number += 1;
         self.next_receipt += 1;
-        done
     }
 
-    fn hold(&mut self, until: u64, items: &[Item])
-        requires { HasNumbers (part_of self.old) }
-        ensures { part_of self.new ≡ with_items until items.now (part_of self.old) }
+    fn change_row(&mut self, number: u64, change: RowChange)
+        requires receipts { self.old.next_receipt + 1 < 2 ^ 64 }
+        ensures part { part_of self.new ≡ with_row_change number change (part_of self.old) }
+        ensures room { (k : ℕ) → HasRoom self.old k → HasRoom self.new k }
     {
-        rows::hold(&mut self.rows, until, items);
-        self.next_receipt += items.len() as u64;
-    }
-
-    fn renew(&mut self, number: u64, until: u64, text: Option<Text>) -> QueueDone
-        requires { HasNumbers (part_of self.old) }
-        ensures part { part_of self.new ≡ with_renewal number until text (part_of self.old) }
-        ensures done { result ≡ QueueDone.Updated self.old.next_receipt }
-    {
-        let receipt = self.next_receipt;
-        rows::renew(&mut self.rows, number, until, receipt, text);
+        rows::change(&mut self.rows, number, self.next_receipt, change);
         self.next_receipt += 1;
-        QueueDone::Updated { receipt }
     }
 
-    fn delete(&mut self, number: u64) -> QueueDone
-        requires { 1 ≤ end_room self.old }
-        ensures part { part_of self.new ≡ with_end number Ending.Deleted (part_of self.old) }
-        ensures done { result ≡ QueueDone.Deleted }
+    fn end_rows(&mut self, which: &Which, ending: Ending)
+        ensures part { part_of self.new ≡ with_ends which.now ending (part_of self.old) }
+        ensures room { (k : ℕ) → HasRoom self.old k → HasRoom self.new k }
     {
-        rows::remove(&mut self.rows, number);
-        rows::note(&mut self.ends, number, Ending::Deleted);
-        QueueDone::Deleted
-    }
-
-    fn clear(&mut self, queue: &QueueName)
-        requires { vec_len self.old.rows + 1 ≤ end_room self.old }
-        ensures { part_of self.new ≡ cleared queue.now (part_of self.old) }
-    {
-        rows::clear(&mut self.rows, &mut self.ends, queue);
+        rows::note(&mut self.ends, &self.rows, which, ending);
+        rows::take_out(&mut self.rows, which);
     }
 }

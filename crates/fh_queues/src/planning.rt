@@ -1,25 +1,26 @@
 // What an ask comes to, before anything changes.
-ghost use Rattle.std.specs.Prelude.{◌≡◌, ◌<◌, ◌≤◌, ◌+◌, ◌^◌, length, option_map, IfOk, IfErr, IfSome};
+ghost use Rattle.std.specs.Prelude.{◌≡◌, ◌<◌, ◌≤◌, ◌+◌, ◌^◌, ◌∷◌, [], length, map, option_map, IfOk, IfErr, IfSome};
 ghost use Rattle.fh_queues.specs.Asks.{ask_of};
 ghost use Rattle.fh_queues.specs.Rows.{live};
-ghost use Rattle.fh_queues.specs.Part.{expiry_after, rows_of};
-ghost use Rattle.fh_queues.specs.Outcome.{outcome, making, putting, taking, updating, deleting, emptying};
+ghost use Rattle.fh_queues.specs.Acts.{sweep};
+ghost use Rattle.fh_queues.specs.declared.act.Act.TheVariants.{EndRows};
+ghost use Rattle.fh_queues.specs.Outcome.{acting, making, putting, taking, updating, deleting, emptying, outcome, made_by, too_full, expiry_after, hold, rows_of};
 ghost use Rattle.fh_queues.specs.Edits.{IsIdle, HasNumbers, planned};
 ghost use Rattle.fh_queues.specs.Faults.{IsPlanOf};
 
-use crate::change::Edit;
+use crate::act::{Act, NewMessage, RowChange, Which};
 use crate::choosing::{chosen, taken_items};
-use crate::{About, Message, QueueAsk, QueueChange, Queues};
-use fh_base::{Moment, NoMemory, QueueName};
-use fh_event::{PlanFault, Text};
+use crate::{About, Ending, Message, QueueAsk, QueueChange, QueueDone, Queues};
+use fh_base::{Moment, NoMemory, QueueName, Rule};
+use fh_event::{Item, PlanFault, Text};
 use std::alloc::Global;
 
 const MILLISECONDS: u64 = 1000;
 
 impl Queues {
     /// The change that an ask makes at a moment, or the rule that refuses it. Rules are tested in the
-    /// order of their numbers.
-    #[tactic(auto, unfolding(crate::specs::Outcome::outcome))]
+    /// order of their numbers. A change that is quiet makes nothing.
+    #[tactic(auto, unfolding(crate::specs::Outcome::acting, crate::specs::Outcome::outcome))]
     pub fn plan(
         &self,
         alloc: Global,
@@ -31,7 +32,7 @@ impl Queues {
         ensures { IsPlanOf self.now.part (outcome self.now.part (ask_of ask.now) m) result }
     {
         match ask {
-            QueueAsk::Make { queue } => Ok(self.plan_make(queue, m)),
+            QueueAsk::Make { queue } => self.plan_make(alloc, m, queue),
             QueueAsk::Put {
                 queue,
                 delay,
@@ -51,19 +52,47 @@ impl Queues {
                 queue,
                 number,
                 receipt,
-            } => self.plan_delete(m, queue, *number, *receipt),
-            QueueAsk::Clear { queue } => self.plan_clear(m, queue),
-            QueueAsk::Sweep => Ok(QueueChange::of(m, Edit::Sweep)),
+            } => self.plan_delete(alloc, m, queue, *number, *receipt),
+            QueueAsk::Clear { queue } => self.plan_clear(alloc, m, queue),
+            QueueAsk::Sweep => Ok(QueueChange {
+                acts: only_sweep(alloc, m)?,
+                done: QueueDone::Swept,
+            }),
         }
     }
 
-    fn plan_make(&self, queue: &QueueName, m: Moment) -> QueueChange
-        ensures { planned self.now.part result ≡ making self.now.part m queue.now }
+    /// What the queues would be too full for. It is asked where no rule refuses the ask and it isn't quiet.
+    #[tactic(auto, unfolding(crate::specs::Outcome::too_full))]
+    pub fn too_full(&self, ask: &QueueAsk<'_>, m: Moment) -> Option<Rule>
+        ensures { result ≡ too_full self.now.part (ask_of ask.now) m }
+    {
+        match ask {
+            QueueAsk::Put { .. } => self.store_rule(m),
+            QueueAsk::Make { .. }
+            | QueueAsk::Take { .. }
+            | QueueAsk::Update { .. }
+            | QueueAsk::Delete { .. }
+            | QueueAsk::Clear { .. }
+            | QueueAsk::Sweep => None,
+        }
+    }
+
+    fn plan_make(
+        &self,
+        alloc: Global,
+        m: Moment,
+        queue: &QueueName,
+    ) -> Result<QueueChange, PlanFault>
+        ensures { IsPlanOf self.now.part (made_by self.now.part m (making self.now.part queue.now)) result }
     {
         if self.has_queue(queue) {
-            return QueueChange::of(m, Edit::LeaveThere);
+            return Ok(QueueChange::quiet(alloc, QueueDone::There));
         }
-        QueueChange::of(m, Edit::Make { queue: *queue })
+        let acts = one_act(alloc, m, Act::AddQueue { queue: *queue })?;
+        Ok(QueueChange {
+            acts,
+            done: QueueDone::Made,
+        })
     }
 
     fn plan_put(
@@ -76,29 +105,28 @@ impl Queues {
         text: &Text,
         about: Option<&About>,
     ) -> Result<QueueChange, PlanFault>
-        ensures { IsPlanOf self.now.part
-            (putting self.now.part m queue.now delay ttl text.now (option_map (λ a. a.now) about.entry))
+        ensures { IsPlanOf self.now.part (made_by self.now.part m
+            (putting self.now.part m queue.now delay ttl text.now (option_map (λ a. a.now) about.entry)))
             result }
     {
-        if let Some(rule) = self.put_rule(m, queue, delay, ttl, text) {
+        if let Some(rule) = self.put_rule(queue, delay, ttl, text) {
             return Err(PlanFault::Rule(rule));
         }
-        let row = Message {
-            number: self.lists.next_number,
+        let new = NewMessage {
             queue: *queue,
             text: text.copy(alloc)?,
             put_at: m.ms(),
             visible_at: m.ms() + delay * MILLISECONDS,
             expiry: expiry_after(m, ttl),
-            count: 0,
-            receipt: self.lists.next_receipt,
-            held: false,
             about: copy_of(alloc, about)?,
         };
+        let acts = one_act(alloc, m, Act::AddRow { new })?;
         Ok(QueueChange {
-            moment: m,
-            row: Some(row),
-            edit: Edit::Put,
+            acts,
+            done: QueueDone::Stored {
+                number: self.lists.next_number,
+                receipt: self.lists.next_receipt,
+            },
         })
     }
 
@@ -111,18 +139,22 @@ impl Queues {
         hold: u64,
     ) -> Result<QueueChange, PlanFault>
         requires numbers { HasNumbers self.now.part }
-        ensures { IsPlanOf self.now.part (taking self.now.part m queue.now count hold) result }
+        ensures { IsPlanOf self.now.part
+            (made_by self.now.part m (taking self.now.part m queue.now count hold)) result }
     {
         if let Some(rule) = self.take_rule(queue, count, hold) {
             return Err(PlanFault::Rule(rule));
         }
         let rows = chosen(alloc, &self.lists.rows, queue, count, m)?;
         if rows.is_empty() {
-            return Ok(QueueChange::of(m, Edit::LeaveEmpty));
+            return Ok(QueueChange::quiet(alloc, QueueDone::Empty));
         }
         let items = taken_items(alloc, &rows, self.lists.next_receipt)?;
-        let until = m.ms() + hold * MILLISECONDS;
-        Ok(QueueChange::of(m, Edit::Hold { until, items }))
+        let acts = holds(alloc, m, items.as_slice(), m.ms() + hold * MILLISECONDS)?;
+        Ok(QueueChange {
+            acts,
+            done: QueueDone::Taken { items },
+        })
     }
 
     fn plan_update(
@@ -135,57 +167,70 @@ impl Queues {
         hold: u64,
         text: Option<&Text>,
     ) -> Result<QueueChange, PlanFault>
-        ensures { IsPlanOf self.now.part
-            (updating self.now.part m queue.now number receipt hold (option_map (λ t. t.now) text.entry))
+        ensures { IsPlanOf self.now.part (made_by self.now.part m
+            (updating self.now.part m queue.now number receipt hold (option_map (λ t. t.now) text.entry)))
             result }
     {
         if let Some(rule) = self.update_rule(m, queue, number, receipt, hold, text) {
             return Err(PlanFault::Rule(rule));
         }
-        let text = text_of(alloc, text)?;
-        let until = m.ms() + hold * MILLISECONDS;
-        Ok(QueueChange::of(
-            m,
-            Edit::Renew {
-                number,
-                until,
-                text,
+        let change = RowChange {
+            visible_at: m.ms() + hold * MILLISECONDS,
+            count: None,
+            held: true,
+            text: text_of(alloc, text)?,
+        };
+        let acts = one_act(alloc, m, Act::ChangeRow { number, change })?;
+        Ok(QueueChange {
+            acts,
+            done: QueueDone::Updated {
+                receipt: self.lists.next_receipt,
             },
-        ))
+        })
     }
 
     fn plan_delete(
         &self,
+        alloc: Global,
         m: Moment,
         queue: &QueueName,
         number: u64,
         receipt: u64,
     ) -> Result<QueueChange, PlanFault>
-        ensures { IsPlanOf self.now.part (deleting self.now.part m queue.now number receipt) result }
+        ensures { IsPlanOf self.now.part
+            (made_by self.now.part m (deleting self.now.part m queue.now number receipt)) result }
     {
         if let Some(rule) = self.message_rule(m, queue, number, receipt) {
             return Err(PlanFault::Rule(rule));
         }
-        Ok(QueueChange::of(m, Edit::Delete { number }))
+        let acts = deletion(alloc, m, Which::Numbered { number })?;
+        Ok(QueueChange {
+            acts,
+            done: QueueDone::Deleted,
+        })
     }
 
-    fn plan_clear(&self, m: Moment, queue: &QueueName) -> Result<QueueChange, PlanFault>
-        ensures { IsPlanOf self.now.part (emptying self.now.part m queue.now) result }
+    fn plan_clear(
+        &self,
+        alloc: Global,
+        m: Moment,
+        queue: &QueueName,
+    ) -> Result<QueueChange, PlanFault>
+        ensures { IsPlanOf self.now.part
+            (made_by self.now.part m (emptying self.now.part m queue.now)) result }
     {
         if let Some(rule) = self.queue_rule(queue) {
             return Err(PlanFault::Rule(rule));
         }
         let count = self.live_in(queue, m);
         if count == 0 {
-            return Ok(QueueChange::of(m, Edit::LeaveEmpty));
+            return Ok(QueueChange::quiet(alloc, QueueDone::Empty));
         }
-        Ok(QueueChange::of(
-            m,
-            Edit::Clear {
-                queue: *queue,
-                count,
-            },
-        ))
+        let acts = deletion(alloc, m, Which::InQueue { queue: *queue })?;
+        Ok(QueueChange {
+            acts,
+            done: QueueDone::Cleared { count },
+        })
     }
 
     // How many live messages a queue has.
@@ -202,16 +247,63 @@ impl Queues {
 }
 
 impl QueueChange {
-    // A change without a new row.
-    fn of(m: Moment, edit: Edit) -> QueueChange
-        ensures { result ≡ record { moment = m; row = None; edit = edit } }
+    // A change that makes nothing.
+    fn quiet(alloc: Global, done: QueueDone) -> QueueChange
+        ensures { result ≡ record { acts = []; done = done } }
     {
         QueueChange {
-            moment: m,
-            row: None,
-            edit,
+            acts: Vec::new(alloc),
+            done,
         }
     }
+}
+
+fn only_sweep(alloc: Global, m: Moment) -> Result<Vec<Act>, NoMemory>
+    ensures { IfOk result (λ acts. acts.items ≡ sweep m ∷ []) }
+{
+    let mut acts = Vec::new(alloc);
+    acts.push(Act::sweep(m))?;
+    Ok(acts)
+}
+
+fn one_act(alloc: Global, m: Moment, act: Act) -> Result<Vec<Act>, NoMemory>
+    ensures { IfOk result (λ acts. acts.items ≡ sweep m ∷ act ∷ []) }
+{
+    let mut acts = only_sweep(alloc, m)?;
+    acts.push(act)?;
+    Ok(acts)
+}
+
+fn deletion(alloc: Global, m: Moment, which: Which) -> Result<Vec<Act>, NoMemory>
+    ensures { IfOk result (λ acts. acts.items ≡ sweep m ∷ EndRows which Ending.Deleted ∷ []) }
+{
+    one_act(
+        alloc,
+        m,
+        Act::EndRows {
+            which,
+            ending: Ending::Deleted,
+        },
+    )
+}
+
+// The acts that hold messages until then, as they are listed.
+fn holds(alloc: Global, m: Moment, items: &[Item], until: u64) -> Result<Vec<Act>, NoMemory>
+    ensures { IfOk result (λ acts. acts.items ≡ sweep m ∷ map (hold until) items.now) }
+{
+    let mut acts = only_sweep(alloc, m)?;
+    for item in items {
+        acts.push(Act::ChangeRow {
+            number: item.number,
+            change: RowChange {
+                visible_at: until,
+                count: Some(item.count),
+                held: true,
+                text: None,
+            },
+        })?;
+    }
+    Ok(acts)
 }
 
 fn expiry_after(m: Moment, ttl: Option<u64>) -> Option<u64>

@@ -3,7 +3,7 @@ ghost use Rattle.std.specs.Prelude.{◌≡◌};
 ghost use Rattle.fh_queues.specs.Part.{no_queues};
 ghost use Rattle.fh_queues.specs.Edits.{IsIdle};
 
-use crate::Message;
+use crate::act::Act;
 use crate::lists::Lists;
 use std::alloc::Global;
 use std::marker::Model;
@@ -12,27 +12,27 @@ use std::marker::Model;
 #[derive(Drop)]
 pub struct Queues {
     pub(crate) lists: Lists,
-    // The row of a put that is staged.
-    pub(crate) ahead: Option<Message>,
+    // The acts of a change that is staged.
+    pub(crate) ahead: Option<Vec<Act>>,
 }
 
 impl Model for Queues {
-    ghost use Rattle.std.specs.Prelude.{◌-◌, vec_len, vec_capacity};
+    ghost use Rattle.std.specs.Prelude.{option_map};
     ghost use Rattle.fh_queues.specs.Edits.{QueueState};
-    ghost use Rattle.fh_queues.specs.Lists.{part_of};
-    ghost use Rattle.fh_queues.specs.Sound.{IsSound};
+    ghost use Rattle.fh_queues.specs.Lists.{part_of, queue_room, row_room, end_room};
+    ghost use Rattle.fh_queues.specs.Whole.{IsWhole};
 
     ghost Value = { QueueState };
 
     ghost view = { λ q. record {
       part = part_of q.lists;
-      ahead = q.ahead;
-      queue_room = vec_capacity q.lists.queues - vec_len q.lists.queues;
-      row_room = vec_capacity q.lists.rows - vec_len q.lists.rows;
-      end_room = vec_capacity q.lists.ends - vec_len q.lists.ends;
+      ahead = option_map (λ acts. acts.items) q.ahead;
+      queue_room = queue_room q.lists;
+      row_room = row_room q.lists;
+      end_room = end_room q.lists;
     } };
 
-    ghost invariant = { λ q. IsSound (part_of q.lists) };
+    ghost invariant = { λ q. IsWhole (part_of q.lists) };
 }
 
 impl Queues {

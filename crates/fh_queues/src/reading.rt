@@ -1,13 +1,13 @@
 // What is read of the queues.
 ghost use Rattle.std.specs.Prelude.{◌≡◌, length, option_copied, IfOk, IfErr};
 ghost use Rattle.fh_queues.specs.Rows.{live, live_row, row_in, row_of};
-ghost use Rattle.fh_queues.specs.Part.{has_queue};
+ghost use Rattle.fh_queues.specs.Part.{has_queue, end_of};
 ghost use Rattle.fh_queues.specs.Outcome.{peeked};
-ghost use Rattle.fh_queues.specs.Places.{place_of, place_of_live, place_of_row, place_of_ending, end_of};
+ghost use Rattle.fh_queues.specs.Places.{place_of, place_of_live, place_of_row, place_of_ending};
 ghost use Rattle.fh_queues.specs.Faults.{IsFaultOf};
 
 use crate::choosing::{chosen, peeked_items};
-use crate::{End, Ending, Message, Queues};
+use crate::{Ending, Message, Queues};
 use fh_base::{Moment, QueueName};
 use fh_event::{Items, Place, PlanFault};
 use std::alloc::Global;
@@ -57,7 +57,7 @@ impl Queues {
             return place_of_row(row, m);
         }
         match self.end_of(number) {
-            Some(end) => place_of_ending(end.ending),
+            Some(ending) => place_of_ending(ending),
             None => Place::Unknown,
         }
     }
@@ -86,10 +86,17 @@ impl Queues {
         self.lists.rows.iter().find(|row| row.number == number)
     }
 
-    fn end_of(&self, number: u64) -> Option<&End>
-        ensures { option_copied result ≡ end_of number self.now.part.ends }
+    // How the message of that number went.
+    fn end_of(&self, number: u64) -> Option<Ending>
+        ensures { result ≡ end_of number self.now.part.ends }
     {
-        self.lists.ends.iter().find(|end| end.number == number)
+        if number == 0 {
+            return None;
+        }
+        match self.lists.ends.get((number - 1) as usize) {
+            None => None,
+            Some(end) => *end,
+        }
     }
 }
 

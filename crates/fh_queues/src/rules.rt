@@ -25,13 +25,12 @@ const MOST_COUNT: u64 = 32;
 impl Queues {
     pub(crate) fn put_rule(
         &self,
-        m: Moment,
         queue: &QueueName,
         delay: u64,
         ttl: Option<u64>,
         text: &Text,
     ) -> Option<Rule>
-        ensures { result ≡ put_rule self.now.part m queue.now delay ttl text.now }
+        ensures { result ≡ put_rule self.now.part queue.now delay ttl text.now }
     {
         if let Some(rule) = text_rule(text) {
             return Some(rule);
@@ -42,10 +41,7 @@ impl Queues {
         if let Some(rule) = delay_rule(delay, ttl) {
             return Some(rule);
         }
-        if let Some(rule) = self.queue_rule(queue) {
-            return Some(rule);
-        }
-        self.store_rule(m)
+        self.queue_rule(queue)
     }
 
     pub(crate) fn take_rule(&self, queue: &QueueName, count: u64, hold: u64) -> Option<Rule>
@@ -114,7 +110,8 @@ impl Queues {
         Some(Rule::QueueNotFound)
     }
 
-    fn store_rule(&self, m: Moment) -> Option<Rule>
+    /// The store is full.
+    pub(crate) fn store_rule(&self, m: Moment) -> Option<Rule>
         ensures { result ≡ store_rule self.now.part m }
     {
         // Of fewer rows than that fewer are live: no need to look at them.

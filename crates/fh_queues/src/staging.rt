@@ -1,28 +1,30 @@
 // How a planned change is staged, and then settled or let go.
 ghost use Rattle.std.specs.Prelude.{◌≡◌, IfOk, OnErr};
-ghost use Rattle.fh_queues.specs.Edits.{HasNumbers, IsIdle, IsStaged, IsOutcome, made, planned};
+ghost use Rattle.fh_queues.specs.Acts.{by_acts};
+ghost use Rattle.fh_queues.specs.Edits.{HasNumbers, IsIdle, IsStaged, IsOutcome, made};
 
 use crate::{QueueChange, QueueDone, Queues, StagedQueues};
 use fh_base::NoMemory;
 
 impl Queues {
-    /// Takes all the memory of a change that was planned on these queues as they are.
+    /// Takes all the memory of a change that was planned on these queues as they are, and isn't quiet.
     pub fn stage(&mut self, change: QueueChange) -> Result<StagedQueues, NoMemory>
         requires idle { IsIdle self.old }
         requires numbers { HasNumbers self.old.part }
-        requires planned { IsOutcome self.old.part (planned self.old.part change) }
+        requires planned { IsOutcome self.old.part (by_acts self.old.part change.acts, change.done) }
         ensures part { self.new.part ≡ self.old.part }
-        ensures change { IfOk result (λ staged. made self.new staged ≡ planned self.old.part change) }
+        ensures change { IfOk result
+            (λ staged. made self.new staged ≡ (by_acts self.old.part change.acts, change.done)) }
         ensures staged { IfOk result (λ staged. IsStaged self.new staged) }
         ensures err { OnErr result (IsIdle self.new) }
     {
-        let QueueChange { moment, row, edit } = change;
-        self.lists.queues.reserve(1)?;
-        self.lists.rows.reserve(1)?;
-        // So that each row can end without memory.
-        self.lists.ends.reserve(self.lists.rows.len() + 1)?;
-        self.ahead = row;
-        Ok(StagedQueues { moment, edit })
+        let QueueChange { acts, done } = change;
+        // Each act adds one of these at most.
+        self.lists.queues.reserve(acts.len())?;
+        self.lists.rows.reserve(acts.len())?;
+        self.lists.ends.reserve(acts.len())?;
+        self.ahead = Some(acts);
+        Ok(StagedQueues { done })
     }
 
     /// Makes a staged change. Takes no memory.
@@ -31,9 +33,11 @@ impl Queues {
         ensures after { (self.new.part, result) ≡ made self.old staged }
         ensures idle { IsIdle self.new }
     {
-        let StagedQueues { moment, edit } = staged;
-        let row = self.ahead.take();
-        self.lists.edit(row, moment, edit)
+        let StagedQueues { done } = staged;
+        if let Some(acts) = self.ahead.take() {
+            self.lists.act_all(acts);
+        }
+        done
     }
 
     /// Lets a staged change go. Takes no memory.
@@ -42,7 +46,7 @@ impl Queues {
         ensures part { self.new.part ≡ self.old.part }
         ensures idle { IsIdle self.new }
     {
-        let StagedQueues { moment: _, edit: _ } = staged;
+        let StagedQueues { done: _ } = staged;
         self.ahead = None;
     }
 }

@@ -71,6 +71,12 @@ fn done(
 {
     assert!(rt; has_numbers(queues));
     let change = queues.plan(rt.alloc(), ask, m)?;
+    if change.is_quiet() {
+        return Ok(change.into_done());
+    }
+    if let Some(rule) = queues.too_full(ask, m) {
+        return Err(PlanFault::Rule(rule));
+    }
     let staged = queues.stage(change)?;
     Ok(queues.settle(staged))
 }
@@ -87,6 +93,9 @@ fn let_go(
 {
     assert!(rt; has_numbers(queues));
     let change = queues.plan(rt.alloc(), ask, m)?;
+    if change.is_quiet() {
+        return Ok(());
+    }
     match queues.stage(change) {
         Err(NoMemory) => {}
         Ok(staged) => queues.unstage(staged),

@@ -1,7 +1,7 @@
 use Rattle.std.proofs.Common.{◌≡◌, arith, true}
 use Rattle.std.proofs.lemmas.Bool.Decides.{nat_tests}
 use Rattle.std.proofs.lemmas.Grind.{common_steps}
-use Rattle.fh_queues.specs.Sound.{is_counted}
+use Rattle.fh_queues.specs.Whole.{is_counted}
 use Rattle.fh_queues.proofs.Items.{counted_at, taken_items-push}
 use Rattle.fh_queues.proofs.choosing.taken_items.Goals as goal
 

@@ -1,5 +1,5 @@
 use Rattle.std.proofs.Common.{◌≡◌, ◌+◌, take, map}
-use Rattle.fh_queues.specs.Part.{taken_items}
+use Rattle.fh_queues.specs.Outcome.{taken_items}
 use Rattle.fh_queues.proofs.choosing.taken_items.Given as goal
 
 abbrev pub invariant-loop-row : goal.invariant-loop-row

@@ -1,4 +1,4 @@
-use Rattle.fh_queues.proofs.Histories.{keeps_untouched}
+use Rattle.fh_queues.proofs.Lawful.{keeps_untouched}
 use Rattle.fh_queues.proofs.laws.receipts_guard_messages.Goals as goal
 
 pub returns : goal.returns

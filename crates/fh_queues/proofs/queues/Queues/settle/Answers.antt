@@ -1,17 +1,23 @@
-use Rattle.std.proofs.Common.{◌≡◌, subst, sym}
-use Rattle.std.specs.Prelude.{Ok}
-use Rattle.fh_queues.specs.Edits.{QueueState, Staged, edited, made}
+use Rattle.std.proofs.Common.{◌≡◌, ◌∙◌, List, Some, ap, subst, sym, arith}
+use Rattle.std.specs.Prelude.{option_map}
+use Rattle.std.proofs.lemmas.Grind.{common_steps}
+use Rattle.fh_event.specs.Judging.{Makes}
+use Rattle.fh_queues.specs.declared.act.Act.{Act}
+use Rattle.fh_queues.specs.Acts.{by_acts}
+use Rattle.fh_queues.specs.Edits.{QueueState, acts_in}
 use Rattle.fh_queues.specs.Lists.{part_of}
 use Rattle.fh_queues.specs.Outcome.{outcome}
-use Rattle.fh_queues.specs.Sound.{IsSound}
-use Rattle.fh_queues.proofs.Sounds.{Sound-outcome}
+use Rattle.fh_queues.specs.Whole.{IsWhole}
+use Rattle.fh_queues.proofs.Fairness.{Whole-outcome}
 use Rattle.fh_queues.proofs.queues.Queues.settle.Goals as goal
 
 pub invariant_of-self : goal.invariant_of-self
 invariant_of-self c =
     let ask = c.requires.planned.ask in
     let m = c.requires.planned.moment in
-    let of_state = subst (λ (s : QueueState). outcome s.part ask m ≡ Ok (made s c.args.staged)) (sym c.self.view_is) c.requires.planned.is in
-    let of_both = subst (λ (t : Staged). outcome (part_of c.self.inside.lists) ask m ≡ Ok (edited (part_of c.self.inside.lists) c.self.inside.ahead t.moment t.edit)) (sym c.staged.view_is) of_state in
-    let planned : outcome (part_of c.self.inside.lists) ask m ≡ Ok (edited (part_of c.self.inside.lists) c.take-row.result c.staged.inside.moment c.staged.inside.edit) = rw c.take-row.ensures.value of_both in
-    subst IsSound (sym c.edit.ensures.part) (Sound-outcome (part_of c.self.inside.lists) ask m _ c.self.invariant planned)
+    let part = part_of c.self.inside.lists in
+    let of_state = subst (λ (s : QueueState). outcome s.part ask m ≡ Makes (by_acts s.part (acts_in s.ahead)) c.args.staged.done) (sym c.self.view_is) c.requires.planned.is in
+    let ahead : c.self.inside.ahead ≡ Some c.in-Some.acts = grind (arith, common_steps) in
+    let acts : acts_in (option_map (λ v. v.items) c.self.inside.ahead) ≡ c.in-Some.acts.items = ap (λ a. acts_in (option_map (λ v. v.items) a)) ahead in
+    let planned : outcome part ask m ≡ Makes (by_acts part c.in-Some.acts.items) c.args.staged.done = subst (λ (a : List Act). outcome part ask m ≡ Makes (by_acts part a) c.args.staged.done) acts of_state in
+    subst IsWhole (sym c.act_all.ensures) (Whole-outcome part ask m _ _ c.self.invariant planned)

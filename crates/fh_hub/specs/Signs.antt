@@ -1,0 +1,77 @@
+-- What an event says of messages, in one record: what it doesn't say is none.
+use Rattle.std.specs.Prelude.{ℕ, ◌==◌, Bool, false, ◌&&◌, if◌then◌else◌, List, [], count_by, Option, Some, None, is_some}
+use Rattle.std.specs.List.{list_any}
+use Rattle.fh_event.specs.declared.command.Command.{Command}
+use Rattle.fh_event.specs.declared.command.Command.TheVariants.{Put, Take, Update, Delete, Clear}
+use Rattle.fh_event.specs.declared.reply.Item.{Item}
+use Rattle.fh_event.specs.declared.reply.Reply.{Reply}
+use Rattle.fh_event.specs.declared.reply.Reply.TheVariants.{Stored, Taken, Updated}
+use Rattle.fh_queues.specs.declared.row.Message.{Message}
+use Rattle.fh_queues.specs.Rows.{is_of, is_visible, row_in}
+use Rattle.fh_queues.specs.Outcome.{after, expiry_after}
+use Rattle.fh_queues.specs.Receipts.{is_named}
+use Rattle.fh_hub.specs.World.{World, effective_moment}
+use Rattle.fh_hub.specs.Replay.{Event}
+
+pub record Signs : Type 0 where
+  -- the queue and the expiry of the message that is born
+  pub queue : List ℕ
+  pub expiry : Option ℕ
+  -- until when the message of a number is held, where it is
+  pub hold : ℕ → Option ℕ
+  -- the message of a number is removed by who asks for it
+  pub removes : ℕ → Bool
+  -- who asks may change the message of a row
+  pub acts_on : Message → Bool
+
+abbrev pub no_signs : Signs
+no_signs = record { queue = []; expiry = None; hold = λ n. None; removes = λ n. false; acts_on = λ row. false }
+
+-- the messages that a reply lists as taken
+abbrev pub items_of : Reply → List Item
+items_of (Taken items) = items
+items_of reply = []
+
+abbrev pub lists : ℕ → List Item → Bool
+lists n items = list_any (λ item. item.number == n) items
+
+-- a take holds what it lists, an update holds what it names, a delete removes what it names with its newest receipt,
+-- and a clear removes the live rows of its queue
+abbrev pub signs_of : List Message → ℕ → Command → Reply → Signs
+signs_of rows m (Put queue delay ttl text) reply = record no_signs { queue = queue; expiry = expiry_after m ttl }
+signs_of rows m (Take queue count hold) reply = record no_signs {
+  hold = λ n. if lists n (items_of reply) then Some (after m hold) else None;
+  acts_on = λ row. is_visible queue m row && lists row.number (items_of reply);
+}
+signs_of rows m (Update queue number receipt hold text) reply = record no_signs {
+  hold = λ n. if number == n then Some (after m hold) else None;
+  acts_on = λ row. is_named queue number receipt row;
+}
+signs_of rows m (Delete queue number receipt) reply = record no_signs {
+  removes = λ n. number == n;
+  acts_on = λ row. is_named queue number receipt row;
+}
+signs_of rows m (Clear queue) reply = record no_signs {
+  removes = λ n. is_some (row_in queue n m rows);
+  acts_on = λ row. is_of queue row;
+}
+signs_of rows m command reply = no_signs
+
+-- the moment at which the event's command acted
+abbrev pub acts_at : Event → ℕ
+acts_at e = effective_moment e.before e.moment
+
+abbrev pub signs : Event → Signs
+signs e = signs_of e.before.parts.queues.rows (acts_at e) e.command e.reply
+
+-- how often the reply gives out this receipt
+abbrev pub gives : ℕ → Reply → ℕ
+gives k (Stored number receipt) = if receipt == k then 1 else 0
+gives k (Taken items) = count_by (λ item. item.receipt == k) items
+gives k (Updated receipt) = if receipt == k then 1 else 0
+gives k reply = 0
+
+-- the reply gives a new message this number
+abbrev pub bears : ℕ → Reply → Bool
+bears n (Stored number receipt) = number == n
+bears n reply = false

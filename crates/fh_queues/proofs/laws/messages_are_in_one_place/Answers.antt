@@ -1,5 +1,0 @@
-use Rattle.fh_queues.proofs.Histories.{in_one_place}
-use Rattle.fh_queues.proofs.laws.messages_are_in_one_place.Goals as goal
-
-pub returns : goal.returns
-returns c = in_one_place
