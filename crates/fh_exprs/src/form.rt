@@ -63,7 +63,7 @@ impl Form {
     }
 
     /// What the text reads as, from the left.
-    fn read(alloc: Global, text: &str, naming: Naming) -> Result<Form, ExprFault>
+    pub fn read(alloc: Global, text: &str, naming: Naming) -> Result<Form, ExprFault>
         ensures { Gives (λ f. f) result (reading naming text.now) }
     {
         let mut form = Form::new(alloc);

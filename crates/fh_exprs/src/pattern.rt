@@ -29,7 +29,7 @@ impl Model for Pattern {
 
 impl Pattern {
     ghost use Rattle.fh_exprs.specs.declared.form.Naming.TheVariants.{Distinct};
-    ghost use Rattle.fh_exprs.specs.Form.{reading_of};
+    ghost use Rattle.fh_exprs.specs.Form.{reading, reading_of};
     ghost use Rattle.fh_exprs.specs.Written.{written};
     ghost use Rattle.fh_exprs.specs.Settings.{replaced};
     ghost use Rattle.fh_exprs.specs.Matching.{IsReading, ReadsAs};
@@ -44,6 +44,18 @@ impl Pattern {
             (λ p. replaced settings.now.pairs text.now ≡ Ok (written p)) }
     {
         let form = Form::read_with_settings(alloc, text, settings, Naming::Distinct)?;
+        Ok(Pattern { form })
+    }
+
+    /// Reads a pattern from a text whose settings were replaced already, as what stands behind the
+    /// container in a blob's path. The faults are `OpenBrace` and `SameName`, and want of memory.
+    pub fn read_replaced(alloc: Global, text: &str) -> Result<Pattern, ExprFault>
+        ensures exact { Gives (λ p. p) result (reading Distinct text.now) }
+
+        // What is read is written so.
+        ensures written { IfOk result (λ p. text.now ≡ written p) }
+    {
+        let form = Form::read(alloc, text, Naming::Distinct)?;
         Ok(Pattern { form })
     }
 

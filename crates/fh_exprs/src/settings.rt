@@ -16,8 +16,9 @@ pub struct Settings {
 }
 
 impl Settings {
-    /// The text with each `%name%` replaced once, from the left.
-    pub(crate) fn replace(&self, alloc: Global, text: &str) -> Result<String, ExprFault>
+    /// The text with each `%name%` replaced once, from the left: what a setting's value holds isn't
+    /// read again. The faults are `NoSetting` and want of memory.
+    pub fn replace(&self, alloc: Global, text: &str) -> Result<String, ExprFault>
         ensures { Gives string_bytes result (replaced self.now.pairs text.now) }
     {
         let mut done = String::new(alloc);
