@@ -256,9 +256,9 @@ same_texts (spot ∷ spots) last (t ∷ a) (u ∷ b) one two sizes e =
     let size : length t ≡ length u = cc in
     let rest_sizes : map length a ≡ map length b = cc in
     let behind_plain : t ++ spelled spots last a ≡ u ++ spelled spots last b = append_cancel_left spot.0 _ _ e in
-    let head : t ≡ u = sym (take_at t (spelled spots last a) (length t) refl) ∙ ap (take (length t)) behind_plain ∙ take_at u (spelled spots last b) (length t) size in
+    let head : t ≡ u = sym (take_at t (spelled spots last a) (length t) refl) ∙ ap (take (length t)) behind_plain ∙ take_at u (spelled spots last b) (length t) (sym size) in
     let tail : spelled spots last a ≡ spelled spots last b =
-    sym (drop_at t (spelled spots last a) (length t) refl) ∙ ap (drop (length t)) behind_plain ∙ drop_at u (spelled spots last b) (length t) size in
+    sym (drop_at t (spelled spots last a) (length t) refl) ∙ ap (drop (length t)) behind_plain ∙ drop_at u (spelled spots last b) (length t) (sym size) in
     ap (λ x. x ∷ a) head ∙ ap (λ xs. u ∷ xs) (same_texts spots last a b (omega arith) (omega arith) rest_sizes tail)
 
 same_pairs : (a b : Pairs) → map (λ p. p.0) a ≡ map (λ p. p.0) b → map (λ p. p.1) a ≡ map (λ p. p.1) b → a ≡ b
@@ -277,7 +277,7 @@ one_reading layout name a b h k =
     let ta = map (λ p. p.1) a in
     let tb = map (λ p. p.1) b in
     let long : length (map length ta) ≡ length (map length tb) =
-    length-map length ta ∙ h.texts.reads.one_each ∙ sym k.texts.reads.one_each ∙ sym (length-map length tb) in
+    length-map ta length ∙ h.texts.reads.one_each ∙ sym k.texts.reads.one_each ∙ sym (length-map tb length) in
     let sizes : map length ta ≡ map length tb =
     same_lengths (map length ta) (map length tb) long (k.texts.greatest ta h.texts.reads) (h.texts.greatest tb k.texts.reads) in
     let texts : ta ≡ tb = same_texts layout.spots layout.last ta tb h.texts.reads.one_each k.texts.reads.one_each sizes (sym h.texts.reads.whole ∙ k.texts.reads.whole) in
