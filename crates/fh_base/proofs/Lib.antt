@@ -1,2 +1,6 @@
 pub mod Appending
+pub mod NameLengths
+pub mod Numbers
+pub mod Padding
 pub mod PoisonNames
+pub mod Utf8

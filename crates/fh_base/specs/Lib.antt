@@ -3,6 +3,7 @@ pub mod FaultPlan
 pub mod Streams
 pub mod MemoryStreams
 pub mod Names
+pub mod PaddedNames
 pub mod QueueNames
 pub mod PlainNames
 pub mod PlainFields
@@ -10,3 +11,7 @@ pub mod BlobNames
 pub mod Moments
 pub mod Rules
 pub mod Poison
+pub mod Numbers
+pub mod Answers
+pub mod Limits
+pub mod Ends
