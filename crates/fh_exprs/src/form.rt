@@ -3,12 +3,13 @@
 ghost use Rattle.std.specs.Prelude.{◌≡◌, ◌≢◌, ◌<◌, ◌||◌, ◌∷◌, [], List, ℕ, length, Ok, IfNone, IfSome};
 ghost use Rattle.std.specs.List.{list_all, list_any, position, position_or_len};
 ghost use Rattle.std.specs.Str.{bytes_eq};
-ghost use Rattle.fh_exprs.specs.Form.{BeginsWith, BeginsWithFault, is_word_byte as is_word_byte_lem, is_host_name as is_host_name_lem, is_brace, open_brace};
-ghost use Rattle.fh_exprs.specs.Answers.{Gives, Leaves};
+ghost use Rattle.fh_exprs.specs.Form.{is_word_byte as is_word_byte_lem, is_host_name as is_host_name_lem, is_brace, open_brace};
+ghost use Rattle.fh_exprs.specs.Answers.{Gives};
+ghost use Rattle.fh_exprs.specs.Steps.{BeginsWith, BeginsWithFault, Leaves};
 
 use crate::fault::ExprFault;
 use crate::settings::Settings;
-use crate::text::Text;
+use fh_base::Text;
 use std::alloc::Global;
 use std::marker::Model;
 
@@ -99,7 +100,7 @@ impl Form {
     {
         Form {
             places: Vec::new(alloc),
-            last: Text::new(alloc),
+            last: Text::empty(alloc),
         }
     }
 
@@ -124,7 +125,7 @@ impl Form {
             self.judge(alloc, name, at)?;
         }
         let name = Text::from_str(alloc, name)?;
-        let before = std::mem::replace(&mut self.last, Text::new(alloc));
+        let before = std::mem::replace(&mut self.last, Text::empty(alloc));
         self.places.push((before, name))?;
         Ok(())
     }
