@@ -1,17 +1,16 @@
 -- The texts that `matched` gives are the greatest reading, which is the only one.
-use Rattle.std.proofs.Common.{◌≡◌, ◌≢◌, ℕ, zero, suc, ◌+◌, ◌<◌, ◌≤◌, List, [], ◌∷◌, ◌++◌, length, map, take, drop, Bool, true, false, cond, Option, Some, None, option_map, refl, sym, ap, subst, ◌∙◌, arith, inl, inr, take-append-drop, length-append, MatchOption}
-use Rattle.std.specs.List.{AllByRecursion}
+use Rattle.std.proofs.Common.{◌≡◌, ◌≢◌, ℕ, zero, suc, ◌<◌, ◌≤◌, List, [], ◌∷◌, ◌++◌, length, map, take, drop, Bool, true, false, cond, Option, Some, None, option_map, refl, sym, ap, subst, ◌∙◌, arith, inl, inr, take-append-drop, length-append, MatchOption}
 use Rattle.std.specs.Option.{option_or, option_and_then}
 use Rattle.std.specs.Ordering.{nat_cmp}
 use Rattle.std.specs.declared.cmp.Ordering.TheVariants.{Greater}
 use Rattle.std.specs.Cmp.Lexicographic.{slice_cmp}
-use Rattle.std.specs.Str.{IsUtf8, is_utf8, bytes_eq}
+use Rattle.std.specs.Str.{is_utf8, bytes_eq}
 use Rattle.std.proofs.lemmas.Bool.{cases_lt}
 use Rattle.std.proofs.lemmas.List.{append_cancel_left, take_at, drop_at, length-take-le, length-map}
 use Rattle.std.proofs.lemmas.Slice.Eq.{bytes_eq-Decides}
 use Rattle.std.proofs.lemmas.Str.{IsUtf8-from_is_utf8, is_utf8-from_IsUtf8}
 use Rattle.fh_exprs.specs.Layout.{Spot, Layout, layout_of}
-use Rattle.fh_exprs.specs.Matching.{behind, onto, longest, matched_by, matched, spelled, IsFilledText, IsReading, IsGreatestReading, ReadsAs}
+use Rattle.fh_exprs.specs.Matching.{behind, onto, longest, matched_by, matched, spelled, IsReading, ReadsAs}
 use Rattle.fh_exprs.proofs.Order.{cmp_le, cmp_rest, cmp_not_greater}
 
 abbrev Pairs : Type 0

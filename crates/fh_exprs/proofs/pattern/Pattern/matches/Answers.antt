@@ -1,7 +1,7 @@
-use Rattle.std.proofs.Common.{◌≡◌, List, ℕ, ◌∙◌, sym, ap, subst}
-use Rattle.std.specs.Prelude.{IfOk, MatchOption, option_map}
+use Rattle.std.proofs.Common.{◌≡◌, List, ℕ}
+use Rattle.std.specs.Prelude.{IfOk, MatchOption}
 use Rattle.std.proofs.lemmas.Result.{IfOk-weaker}
-use Rattle.fh_exprs.specs.Layout.{Spot, Layout, layout_of}
+use Rattle.fh_exprs.specs.Layout.{Layout}
 use Rattle.fh_exprs.specs.Matching.{IsReading, ReadsAs}
 use Rattle.fh_exprs.proofs.Matched.{answer-matched}
 use Rattle.fh_exprs.proofs.pattern.Pattern.matches.Goals as goal
