@@ -4,6 +4,7 @@ pub mod Settings
 pub mod Layout
 pub mod Form
 pub mod Steps
+pub mod Names
 pub mod Matching
 pub mod Tails
 pub mod Written

@@ -12,7 +12,8 @@
 //!   the longest text, then whose second has, and so on, and `None` exactly where there is no way.
 //!
 //! Definitions, in the order to read them: `specs/Settings.antt`, `Layout`, `Form`, `Written`, `Json`,
-//! `Values` and `Matching`. `Steps` and `Tails` are for private functions alone.
+//! `Values` and `Matching`. `Steps`, `Names` and `Tails` are for private
+//! functions alone.
 #![tactic(auto)]
 
 mod fault;
@@ -21,6 +22,7 @@ mod matching;
 mod pairs;
 mod pattern;
 mod settings;
+mod taken;
 mod template;
 mod values;
 

@@ -1,7 +1,7 @@
 use super::*;
 use fh_base::{NoMemory, Text};
 use serde_json::Value;
-use std::alloc::Global;
+use std::alloc::{AllocError, Global};
 use std::test::Fail;
 
 fn pairs_of(alloc: Global, entries: &[(&str, &str)]) -> Result<Pairs, NoMemory> {
@@ -47,7 +47,7 @@ fn values_of(alloc: Global, message: &str) -> Result<Values, NoMemory> {
     Ok(Values { known, message })
 }
 
-fn fault_text(alloc: Global, fault: &ExprFault) -> Result<String, NoMemory> {
+fn fault_text(alloc: Global, fault: &ExprFault) -> Result<String, AllocError> {
     match fault {
         ExprFault::OpenBrace { at } => format!(in alloc; "OpenBrace {at}"),
         ExprFault::NoSetting { name } => format!(in alloc; "NoSetting {}", name.as_str()),
@@ -64,7 +64,7 @@ fn resolved_text(
     text: &str,
     settings: &Settings,
     values: &Values,
-) -> Result<String, NoMemory> {
+) -> Result<String, AllocError> {
     let template = match Template::read(alloc, text, settings) {
         Ok(template) => template,
         Err(fault) => return fault_text(alloc, &fault),
@@ -81,7 +81,7 @@ fn matched_text(
     text: &str,
     settings: &Settings,
     name: &str,
-) -> Result<String, NoMemory> {
+) -> Result<String, AllocError> {
     match Pattern::read(alloc, text, settings) {
         Ok(pattern) => found_text(alloc, &pattern, name),
         Err(fault) => fault_text(alloc, &fault),
@@ -89,7 +89,7 @@ fn matched_text(
 }
 
 // The names with their texts, or `none`.
-fn found_text(alloc: Global, pattern: &Pattern, name: &str) -> Result<String, NoMemory> {
+fn found_text(alloc: Global, pattern: &Pattern, name: &str) -> Result<String, AllocError> {
     let Ok(found) = pattern.matches(alloc, name) else {
         return format!(in alloc; "NoMemory");
     };
