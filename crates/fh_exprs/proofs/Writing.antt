@@ -172,8 +172,11 @@ spots_read done at (spot ∷ spots) last names =
 pub read_back : (layout : Layout) → HasNames layout → reading Free (written layout) ≡ Ok layout
 read_back layout names = spots_read [] 0 layout.spots layout.last names
 
+pub written_again : (naming : Naming) (text : List ℕ) (layout : Layout) → reading naming text ≡ Ok layout → text ≡ written layout
+written_again naming text layout h = sym (written_back naming blank (outside 0) text layout h)
+
 pub written_of : (naming : Naming) (given : Result (List ℕ) ExprFault) (layout : Layout) → reading_of naming given ≡ Ok layout → given ≡ Ok (written layout)
-written_of naming (Ok text) layout h = ap Ok (sym (written_back naming blank (outside 0) text layout h))
+written_of naming (Ok text) layout h = ap Ok (written_again naming text layout h)
 written_of naming (Err fault) layout h = cc
 
 pub reading_of_written : (given : Result (List ℕ) ExprFault) (layout : Layout) → HasNames layout → given ≡ Ok (written layout)

@@ -3,7 +3,10 @@ pub mod Pairs
 pub mod Settings
 pub mod Layout
 pub mod Form
+pub mod Steps
+pub mod Names
 pub mod Matching
+pub mod Tails
 pub mod Written
 pub mod Json
 pub mod Values

@@ -2,11 +2,12 @@
 
 ghost use Rattle.std.specs.Prelude.{◌<◌, length, string_bytes, MatchOption, IfSome};
 ghost use Rattle.fh_exprs.specs.Answers.{Gives};
-ghost use Rattle.fh_exprs.specs.Settings.{replaced, replacement, IsWithoutSettings, BeginsWithSetting};
+ghost use Rattle.fh_exprs.specs.Settings.{replaced, replacement};
+ghost use Rattle.fh_exprs.specs.Steps.{IsWithoutSettings, BeginsWithSetting};
 
 use crate::fault::ExprFault;
 use crate::pairs::Pairs;
-use crate::text::Text;
+use fh_base::Text;
 use std::alloc::Global;
 
 /// The app's settings.
@@ -16,8 +17,9 @@ pub struct Settings {
 }
 
 impl Settings {
-    /// The text with each `%name%` replaced once, from the left.
-    pub(crate) fn replace(&self, alloc: Global, text: &str) -> Result<String, ExprFault>
+    /// The text with each `%name%` replaced once, from the left: what a setting's value holds isn't
+    /// read again. The faults are `NoSetting` and want of memory.
+    pub fn replace(&self, alloc: Global, text: &str) -> Result<String, ExprFault>
         ensures { Gives string_bytes result (replaced self.now.pairs text.now) }
     {
         let mut done = String::new(alloc);
