@@ -10,3 +10,7 @@ pub mod BlobNames
 pub mod Moments
 pub mod Rules
 pub mod Poison
+pub mod Durations
+pub mod Calendar
+pub mod Times
+pub mod MemoryEntropy

@@ -11,6 +11,10 @@
 
 mod blob_name;
 mod both;
+mod calendar;
+mod clock;
+mod durations;
+mod entropy;
 mod fault_plan;
 mod faults;
 mod moment;
@@ -21,9 +25,13 @@ mod rule;
 mod sink;
 mod source;
 mod status;
+mod times;
 
 pub use blob_name::is_blob_name;
 pub use both::Both;
+pub use clock::{Clock, HostClock, MemoryClock};
+pub use durations::read_duration;
+pub use entropy::{Entropy, HostEntropy, MemoryEntropy};
 pub use fault_plan::{Failing, FaultPlan};
 pub use faults::{Failed, NoMemory};
 pub use moment::Moment;
@@ -34,6 +42,7 @@ pub use rule::Rule;
 pub use sink::{MemorySink, Sink, StreamSink, write_all};
 pub use source::{MemorySource, Source, StreamSource, read_byte};
 pub use status::Status;
+pub use times::{TimeForm, time_text};
 
 #[cfg(test)]
 mod tests;
