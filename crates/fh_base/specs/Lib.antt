@@ -3,6 +3,7 @@ pub mod FaultPlan
 pub mod Streams
 pub mod MemoryStreams
 pub mod Names
+pub mod PaddedNames
 pub mod QueueNames
 pub mod PlainNames
 pub mod PlainFields
@@ -14,3 +15,7 @@ pub mod Durations
 pub mod Calendar
 pub mod Times
 pub mod MemoryEntropy
+pub mod Numbers
+pub mod Answers
+pub mod Limits
+pub mod Ends

@@ -1,38 +1,18 @@
 -- A plain name as a padded array and a length.
-use Rattle.std.specs.Prelude.{◌≡◌, ℕ, ◌-◌, ◌≤◌, List, length, take, drop, ◌++◌, replicate, Bool, true, false, ◌&&◌, refl}
-use Rattle.std.proofs.Common.{arith, length-take}
-use Rattle.std.proofs.lemmas.List.{take-append-drop}
-use Rattle.std.proofs.lemmas.Bool.{leb-true}
+use Rattle.std.specs.Prelude.{◌≡◌, ℕ, List, length, take}
 use Rattle.fh_base.specs.PlainNames.{is_plain_name}
+use Rattle.fh_base.specs.PaddedNames.{IsPadded, padding, padding-name, length-name}
 use Rattle.fh_base.specs.declared.plain_name.PlainName.TheInside.{Inside}
 
 abbrev pub name_of : Inside → List ℕ
 name_of a = take a.length a.bytes
 
--- the text is a name, and zeros stand behind it
-pub record IsNamed (a : Inside) : Type 0 where
-  pub short : a.length ≤ 127
-  pub sized : length a.bytes ≡ 127
-  pub name : is_plain_name (take a.length a.bytes) ≡ true
-  pub zeros : drop a.length a.bytes ≡ replicate (127 - a.length) 0
+abbrev pub IsNamed : Inside → Type 0
+IsNamed a = IsPadded 127 is_plain_name a.bytes a.length
 
 abbrev pub padded : List ℕ → Inside
-padded text = record { bytes = text ++ replicate (127 - length text) 0; length = length text }
-
-length-name : (n : ℕ) (bytes : List ℕ) → n ≤ 127 → length bytes ≡ 127 → length (take n bytes) ≡ n
-length-name n bytes short sized = omega (arith, length-take n bytes)
-
-rejoined : (n : ℕ) (bytes : List ℕ) → n ≤ 127 → length bytes ≡ 127 → drop n bytes ≡ replicate (127 - n) 0
-    → take n bytes ++ replicate (127 - length (take n bytes)) 0 ≡ bytes
-rejoined n bytes short sized zeros = rw (length-name n bytes short sized, ← zeros) (take-append-drop n bytes)
+padded text = record { bytes = padding 127 text; length = length text }
 
 pub padded_ok : (a : Inside) → IsNamed a → padded (name_of a) ≡ a
 padded_ok a h =
-    rw (rejoined a.length a.bytes h.short h.sized h.zeros, length-name a.length a.bytes h.short h.sized)
-
-first_true : (a b : Bool) → (a && b) ≡ true → a ≡ true
-first_true true b both = refl
-first_true false b both = both
-
-pub is_short : (text : List ℕ) → is_plain_name text ≡ true → length text ≤ 127
-is_short text name = leb-true (length text) 127 (first_true _ _ (first_true _ _ name))
+    rw (padding-name 127 a.length a.bytes h.short h.sized h.zeros, length-name 127 a.length a.bytes h.short h.sized)

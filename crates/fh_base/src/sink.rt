@@ -2,7 +2,7 @@
 ghost use Rattle.std.specs.Prelude.{◌≡◌, ℕ, Bool, false, true, ◌≤◌, List, length, Option, None, Some, IfOk, OnOk, is_err};
 ghost use Rattle.std.specs.Io.KnownBytes.{WriteAppends};
 ghost use Rattle.fh_base.specs.Faults.{HasCause, KeepsSure};
-ghost use Rattle.fh_base.specs.FaultPlan.{fails_next, counted};
+ghost use Rattle.fh_base.specs.FaultPlan.{fails_next, counted, called};
 ghost use Rattle.fh_base.specs.Streams.{Takes, WritesAll};
 
 use crate::{Failed, FaultPlan};
@@ -89,7 +89,7 @@ impl Sink for MemorySink {
         ensures bytes { WriteAppends (Some (bytes_written self.old)) (Some (bytes_written self.new)) result bytes.now }
         ensures whole { IfOk result (λ n. n ≡ length bytes.now) }
         ensures fails { fails_next self.old.plan ≡ true → is_err result ≡ true }
-        ensures plan { OnOk result (self.new.plan ≡ counted self.old.plan) }
+        ensures plan { self.new.plan ≡ called (is_err result) self.old.plan }
         ensures cause { HasCause self.old.plan.faults self.new.plan.faults result }
     {
         if self.plan.fails_now() {

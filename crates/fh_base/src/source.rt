@@ -3,7 +3,7 @@ ghost use Rattle.std.specs.Prelude.{◌<◌, IfOk, OnErr, OnSome, ◌≡◌, ℕ
 ghost use Rattle.std.specs.Io.{ReadsAtMost};
 ghost use Rattle.std.specs.Io.KnownBytes.{ReadConsumes, Keeps};
 ghost use Rattle.fh_base.specs.Faults.{HasCause, KeepsSure};
-ghost use Rattle.fh_base.specs.FaultPlan.{fails_next, counted, raised};
+ghost use Rattle.fh_base.specs.FaultPlan.{fails_next, counted, never_fails, raised};
 ghost use Rattle.fh_base.specs.Streams.{Lowers, ReadsByte};
 
 use crate::{Failed, FaultPlan, NoMemory};
@@ -56,7 +56,8 @@ pub fn read_byte<S: Source>(source: &mut S) -> Result<Option<u8>, Failed>
     }
 }
 
-/// A source over bytes in memory. It tells what is left, and fails exactly at the reads of its plan.
+/// A source over bytes in memory. It tells what is left, and fails exactly at the reads of its plan. Where
+/// the plan lists none it tells that no read fails.
 #[derive(Drop)]
 pub struct MemorySource {
     pub bytes: Vec<u8>,
@@ -82,6 +83,7 @@ impl MemorySource {
 }
 
 impl Source for MemorySource {
+    ghost use Rattle.fh_base.specs.FaultPlan.{never_fails};
     ghost use Rattle.fh_base.specs.MemoryStreams.{bytes_left};
 
     ghost left = { λ s. Some (bytes_left s) };
@@ -90,7 +92,7 @@ impl Source for MemorySource {
 
     ghost read_faults = { λ s. s.plan.faults };
 
-    ghost reads_surely = { λ s. false };
+    ghost reads_surely = { λ s. never_fails s.plan };
 
     ghost beside_reading = { λ s. (None, 0, false) };
 
@@ -99,6 +101,7 @@ impl Source for MemorySource {
         ensures bytes { ReadConsumes (Some (bytes_left self.old)) (Some (bytes_left self.new)) result buf.new }
         ensures fails { is_err result ≡ fails_next self.old.plan }
         ensures plan { self.new.plan ≡ counted self.old.plan }
+        ensures sure { KeepsSure (never_fails self.old.plan) (never_fails self.new.plan) result }
     {
         if self.plan.fails_now() {
             return Err(Failed);
@@ -139,6 +142,20 @@ impl<R: Read + Drop> StreamSource<R> {
             Err(_) => Err(NoMemory),
         }
     }
+
+    // A stream that has given so many bytes already.
+    #[cfg(test)]
+    pub(crate) fn with_given(
+        alloc: Global,
+        reader: R,
+        given: u64,
+    ) -> Result<StreamSource<R>, NoMemory>
+        requires { given ≤ 1099511627776 }
+    {
+        let mut source = StreamSource::new(alloc, reader)?;
+        source.given = given;
+        Ok(source)
+    }
 }
 
 impl<R: Read> StreamSource<R> {
@@ -162,7 +179,12 @@ impl<R: Read> Source for StreamSource<R> {
 
     ghost beside_reading = { λ s. (None, 0, false) };
 
-    fn read(&mut self, buf: &mut [u8]) -> Result<usize, Failed> {
+    fn read(&mut self, buf: &mut [u8]) -> Result<usize, Failed>
+        ensures bound { ReadsAtMost result buf.new }
+        ensures lowers { Lowers (1099511627776 - self.old.given) (1099511627776 - self.new.given) result }
+        ensures ends { self.old.given ≡ 1099511627776 → 0 < length buf.old → is_err result ≡ true }
+        ensures cause { HasCause self.old.faults self.new.faults result }
+    {
         let room = MOST - self.given;
         let size = room.min(buf.len() as u64) as usize;
         if size == 0 && !buf.is_empty() {

@@ -103,6 +103,98 @@ fn streams_over_a_real_file(rt: HostRuntime) -> Result<(), Fail> {
     Ok(())
 }
 
+/// A connection in memory: what comes in, and what goes out.
+#[derive(Drop)]
+struct Wire {
+    incoming: MemorySource,
+    outgoing: MemorySink,
+}
+
+impl Source for Wire {
+    ghost use Rattle.std.specs.Prelude.{Some, length, false};
+    ghost use Rattle.fh_base.specs.FaultPlan.{never_fails};
+    ghost use Rattle.fh_base.specs.MemoryStreams.{bytes_left, bytes_written};
+
+    ghost left = { λ s. Some (bytes_left s.incoming) };
+
+    ghost most = { λ s. length (bytes_left s.incoming) };
+
+    ghost read_faults = { λ s. s.incoming.plan.faults };
+
+    ghost reads_surely = { λ s. never_fails s.incoming.plan };
+
+    ghost beside_reading = { λ s. (Some (bytes_written s.outgoing), s.outgoing.plan.faults, false) };
+
+    fn read(&mut self, buf: &mut [u8]) -> Result<usize, Failed> {
+        self.incoming.read(buf)
+    }
+}
+
+impl Sink for Wire {
+    ghost use Rattle.std.specs.Prelude.{Some, length, false};
+    ghost use Rattle.fh_base.specs.FaultPlan.{never_fails};
+    ghost use Rattle.fh_base.specs.MemoryStreams.{bytes_left, bytes_written};
+
+    ghost written = { λ s. Some (bytes_written s.outgoing) };
+
+    ghost write_faults = { λ s. s.outgoing.plan.faults };
+
+    ghost writes_surely = { λ s. false };
+
+    ghost beside_writing = { λ s. (Some (bytes_left s.incoming), length (bytes_left s.incoming), s.incoming.plan.faults, never_fails s.incoming.plan) };
+
+    fn write(&mut self, bytes: &[u8]) -> Result<usize, Failed> {
+        self.outgoing.write(bytes)
+    }
+}
+
+impl Both for Wire {
+    ghost use Rattle.std.specs.Prelude.{refl};
+
+    ghost reading_keeps = { λ x. refl };
+
+    ghost writing_keeps = { λ x. refl };
+}
+
+fn echo_byte<T: Both>(wire: &mut T) -> Result<(), Failed> {
+    match read_byte(wire)? {
+        Some(byte) => write_all(wire, &[byte]),
+        None => Ok(()),
+    }
+}
+
+#[test]
+fn a_connection_in_memory_is_both(rt: HostRuntime) -> Result<(), Fail> {
+    let alloc = rt.alloc();
+    let calls = FaultPlan::new(Failing::Listed {
+        calls: Vec::new(alloc),
+    });
+    let none = FaultPlan::new(Failing::Listed {
+        calls: Vec::new(alloc),
+    });
+    let mut wire = Wire {
+        incoming: MemorySource::new(b"ab".to_vec(alloc)?, calls),
+        outgoing: MemorySink::new(alloc, none),
+    };
+    assert_eq!(rt; echo_byte(&mut wire), Ok(()));
+    assert_eq!(rt; wire.outgoing.bytes.as_slice(), b"a".as_slice());
+    Ok(())
+}
+
+#[test]
+fn endless_input_ends_with_a_fault(rt: HostRuntime) -> Result<(), Fail> {
+    let alloc = rt.alloc();
+    let given = 1_099_511_627_775;
+    let Ok(mut source) = StreamSource::with_given(alloc, b"abc".as_slice(), given) else {
+        return Err(Fail::from("no memory"));
+    };
+    let mut buf = [0; 2];
+    assert_eq!(rt; source.read(&mut buf), Ok(1));
+    assert_eq!(rt; source.read(&mut buf), Err(Failed));
+    assert_eq!(rt; source.read(&mut []), Ok(0));
+    Ok(())
+}
+
 #[test]
 fn durations_are_read_at_their_edges(rt: HostRuntime) {
     let read = [

@@ -3,7 +3,7 @@ use Rattle.std.proofs.Common.{◌≡◌, ℕ, ◌≤◌, Bool, true, false, List
 use Rattle.std.specs.Prelude.{nat_lt, if◌then◌else◌, IfSome}
 use Rattle.std.proofs.lemmas.Bool.Decides.{nat_tests}
 use Rattle.fh_base.specs.Names.{is_queue_name}
-use Rattle.fh_base.specs.QueueNames.{is_short}
+use Rattle.fh_base.proofs.NameLengths.{queue_name_length}
 use Rattle.fh_base.specs.declared.rule.Rule.TheVariants.{TooLarge, BadName}
 use Rattle.fh_event.specs.declared.command.Command.{Command}
 use Rattle.fh_event.specs.declared.command.Command.TheVariants.{MakeQueue, Put, Take, Update, Delete, Clear, Peek, Locate}
@@ -26,7 +26,7 @@ named : (queue : List ℕ) (given : Dispatch) (ask : Ask) → where_named queue 
 named queue given ask is = by_test (is_queue_name queue) refl is
   where
     by_test : (good : Bool) → is_queue_name queue ≡ good → (if good then given else Refuses BadName) ≡ Asks ask → IsNamed queue (Asks ask) given
-    by_test true good is = record { name = omega (arith, is_short queue good); same = cc }
+    by_test true good is = record { name = omega (arith, queue_name_length queue good); same = cc }
     by_test false good is = absurd (cc)
 
 narrow_text : (text : List ℕ) → text_rule text ≡ None → length text ≤ 65536

@@ -1,23 +1,10 @@
--- The name stands at the front of the array, and zeros behind it.
-use Rattle.std.proofs.Common.{◌≡◌, ℕ, ◌-◌, ◌≤◌, true, List, ◌++◌, length, drop, replicate, ap, arith, length-append, refl, sym, ◌∙◌}
-use Rattle.std.proofs.lemmas.List.{drop-replicate, length-replicate, take_at, drop_at}
+use Rattle.std.proofs.Common.{refl, sym, ◌∙◌}
 use Rattle.fh_base.specs.Names.{is_queue_name}
-use Rattle.fh_base.specs.QueueNames.{IsNamed, is_short}
+use Rattle.fh_base.proofs.Padding.{is_padded}
+use Rattle.fh_base.proofs.NameLengths.{queue_name_length}
 use Rattle.fh_base.proofs.queue_name.QueueName.of_bytes.Goals as goal
-
-named : (text front zeros : List ℕ) (n : ℕ) → n ≡ length text → front ≡ text → zeros ≡ replicate 63 0 → is_queue_name text ≡ true
-    → IsNamed (record { bytes = front ++ drop n zeros; length = n })
-named text front zeros n size is padding name =
-    let short : length text ≤ 63 = is_short text name in
-    let long : length front ≡ n = ap length is ∙ sym size in
-    let rest : drop n zeros ≡ replicate (63 - n) 0 = ap (drop n) padding ∙ drop-replicate n 63 0 in
-    record {
-      short = omega arith;
-      sized = rw rest (omega (arith, length-append front (replicate (63 - n) 0), length-replicate {A = ℕ} (63 - n) 0));
-      name = rw (take_at front (drop n zeros) n long, is) name;
-      zeros = drop_at front (drop n zeros) n long ∙ rest;
-    }
 
 pub invariant_of-result : goal.invariant_of-result
 invariant_of-result c =
-    named c.args.text.now _ _ _ refl c.copy_from_slice.ensures.after refl (sym c.is_queue_name.ensures ∙ c.if-not-is_queue_name.false)
+    let name = sym c.is_queue_name.ensures ∙ c.if-not-is_queue_name.false in
+    is_padded 63 is_queue_name c.args.text.now _ _ _ refl c.copy_from_slice.ensures.after refl (queue_name_length _ name) name
