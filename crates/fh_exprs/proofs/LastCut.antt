@@ -5,7 +5,7 @@ use Rattle.std.specs.Str.Pattern.{LacksTextAt, HasTextAt}
 use Rattle.std.proofs.Math.Utf8.{encode, encodes}
 use Rattle.std.proofs.lemmas.List.{take_at, drop_at, length-take-le, nil_from_length}
 use Rattle.std.proofs.lemmas.Str.{encodes-append, encodes_same, IsUtf8-append, IsUtf8-drop, IsCharBoundary-from_take, length-encode, len_utf8_bounds}
-use Rattle.fh_exprs.specs.Matching.{IsLastCut, HasNoCut}
+use Rattle.fh_exprs.specs.Tails.{IsLastCut, HasNoCut}
 
 -- the text's last character is taken off: what else leaves something off leaves at least that
 init_part : (xs : List ℕ) (m : ℕ) (ms ys : List ℕ) (c : ℕ) → xs ++ (m ∷ ms) ≡ ys ++ (c ∷ []) → (zs : List ℕ) × (ys ≡ xs ++ zs)

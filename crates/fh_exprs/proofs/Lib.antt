@@ -2,6 +2,7 @@ pub mod Cuts
 pub mod Faults
 pub mod Replacing
 pub mod Elements
+pub mod Matched
 pub mod Order
 pub mod LastCut
 pub mod Readings

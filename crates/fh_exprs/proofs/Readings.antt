@@ -9,7 +9,8 @@ use Rattle.std.specs.declared.cmp.Ordering.TheVariants.{Greater}
 use Rattle.std.proofs.lemmas.List.{append_cancel_right, reverse-append, take_at, drop_more}
 use Rattle.std.proofs.lemmas.Str.{IsUtf8-append, IsUtf8-take, IsCharBoundary-at_seam}
 use Rattle.fh_exprs.specs.Layout.{Spot, layout_of}
-use Rattle.fh_exprs.specs.Matching.{spelled, IsFilledText, IsReading, IsGreatestReading, ReadsAs, IsTail, IsGreatestTail, EndsAs, IsLastCut, HasNoCut}
+use Rattle.fh_exprs.specs.Matching.{spelled, IsFilledText, IsReading, IsGreatestReading, ReadsAs}
+use Rattle.fh_exprs.specs.Tails.{IsTail, IsGreatestTail, EndsAs, IsLastCut, HasNoCut}
 use Rattle.fh_exprs.proofs.Order.{cmp_le, cmp_rest, cmp_not_greater, front_part}
 
 -- nothing is read yet

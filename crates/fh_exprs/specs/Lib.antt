@@ -4,6 +4,7 @@ pub mod Settings
 pub mod Layout
 pub mod Form
 pub mod Matching
+pub mod Tails
 pub mod Written
 pub mod Json
 pub mod Values

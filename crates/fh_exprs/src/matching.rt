@@ -6,7 +6,8 @@
 
 ghost use Rattle.std.specs.Prelude.{◌≡◌, ◌≢◌, ◌++◌, [], List, ℕ, IfOk, MatchOption};
 ghost use Rattle.fh_exprs.specs.Layout.{Layout, layout_of};
-ghost use Rattle.fh_exprs.specs.Matching.{IsFilledText, IsReading, ReadsAs, IsTail, EndsAs, IsLastCut, HasNoCut};
+ghost use Rattle.fh_exprs.specs.Matching.{IsFilledText, IsReading, ReadsAs};
+ghost use Rattle.fh_exprs.specs.Tails.{IsTail, EndsAs, IsLastCut, HasNoCut};
 
 use crate::form::Place;
 use crate::text::Text;

@@ -1,6 +1,6 @@
 //! Patterns: texts with names that a given name is read by.
 
-ghost use Rattle.std.specs.Prelude.{◌≡◌, Ok, IfOk, MatchOption, List, ℕ};
+ghost use Rattle.std.specs.Prelude.{◌≡◌, Ok, IfOk, MatchOption, option_map, List, ℕ};
 ghost use Rattle.fh_exprs.specs.Answers.{Gives};
 
 use crate::fault::ExprFault;
@@ -32,7 +32,7 @@ impl Pattern {
     ghost use Rattle.fh_exprs.specs.Form.{reading, reading_of};
     ghost use Rattle.fh_exprs.specs.Written.{written};
     ghost use Rattle.fh_exprs.specs.Settings.{replaced};
-    ghost use Rattle.fh_exprs.specs.Matching.{IsReading, ReadsAs};
+    ghost use Rattle.fh_exprs.specs.Matching.{matched, IsReading, ReadsAs};
 
     /// Reads a pattern. The faults are `NoSetting`, `OpenBrace` and `SameName`, and want of memory.
     pub fn read(alloc: Global, text: &str, settings: &Settings) -> Result<Pattern, ExprFault>
@@ -62,7 +62,11 @@ impl Pattern {
     /// The pattern's names with their texts, in order. Where the name can be read in several ways,
     /// the first name has the longest text, then the second, and so on.
     pub fn matches(&self, alloc: Global, name: &str) -> Result<Option<Vec<(Text, Text)>>, NoMemory>
-        ensures { IfOk result (λ found. MatchOption found
+        ensures exact { IfOk result (λ found.
+            option_map (λ pairs. pairs.items) found ≡ matched self.now name.now) }
+
+        // That is the greatest reading, and none where there is no reading.
+        ensures greatest { IfOk result (λ found. MatchOption found
             ((texts : List (List ℕ)) → IsReading self.now name.now texts → ⊥)
             (λ pairs. ReadsAs self.now name.now pairs.items)) }
     {

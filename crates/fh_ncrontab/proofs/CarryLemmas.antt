@@ -1,7 +1,7 @@
 -- The least number whose quotient by b is in P and whose remainder is in Q, from the least ones in P and in Q: the carry of a clock.
 use Rattle.std.proofs.Common.{◌≡◌, ℕ, ◌+◌, ◌*◌, ◌/◌, ◌%◌, ◌<◌, ◌≤◌, inl, inr, Some, None, sym, subst, arith}
 use Rattle.std.proofs.lemmas.Bool.{cases_lt}
-use Rattle.fh_ncrontab.specs.Sets.{IsLeastFrom}
+use Rattle.fh_ncrontab.specs.Search.{IsLeastFrom}
 
 -- the least from n on in P, where the day's length is the literal 86400
 abbrev pub InBoth : (ℕ → Type 0) → (ℕ → Type 0) → ℕ → Type 0

@@ -1,15 +1,17 @@
 -- Dates by their places and by their numbers: where no date of a schedule lies, and the least one.
-use Rattle.std.proofs.Common.{◌≡◌, ℕ, ◌+◌, ◌%◌, ◌<◌, ◌≤◌, inl, inr, Bool, true, false, ◌&&◌, Some, None, refl, sym, ap, subst, ◌∙◌, arith, rules, ℤ, pos, negsuc, ◌<ℤ◌, ◌≤ℤ◌, unsigned_abs}
+use Rattle.std.proofs.Common.{◌≡◌, ℕ, ◌+◌, ◌%◌, ◌<◌, ◌≤◌, inl, inr, Bool, true, false, ◌&&◌, Some, None, refl, sym, ap, subst, ◌∙◌, arith, rules, ℤ, pos, negsuc, ◌+ℤ◌, ◌-ℤ◌, ◌<ℤ◌, ◌≤ℤ◌, unsigned_abs}
 use Rattle.std.proofs.lemmas.Bool.{cases_lt}
 use Rattle.std.proofs.lemmas.Int.{by_lt_z}
 use Rattle.jiff_core.specs.declared.civil.date.Date.{Date}
 use Rattle.jiff_core.specs.Date.{epoch_day, weekday_of}
-use Rattle.jiff_core.specs.Calendar.{weekday_number, days_in_month}
+use Rattle.jiff_core.specs.Calendar.{day_count, weekday_number, days_in_month}
 use Rattle.jiff_core.proofs.SignedLemmas.{signed_arith}
-use Rattle.jiff_core.proofs.CalendarLemmas.{days_from_civil-day_count, day_count-epoch, days_in_month_bounds}
+use Rattle.jiff_core.proofs.CalendarLemmas.{days_from_civil-day_count, days_in_month_bounds}
+use Rattle.jiff_core.proofs.MarchLemmas.{day_count-early}
 use Rattle.jiff_core.proofs.DateLemmas.{IsEarlier, epoch_day-lt, epoch_day_same, epoch_day_range, cases_date}
 use Rattle.fh_ncrontab.specs.declared.schedule.Schedule.{Schedule}
-use Rattle.fh_ncrontab.specs.Sets.{holds, IsLeastFrom, IsNextIn}
+use Rattle.fh_ncrontab.specs.Sets.{holds}
+use Rattle.fh_ncrontab.specs.Search.{IsLeastFrom, IsNextIn}
 use Rattle.fh_ncrontab.specs.Dates.{DayIn, place, HasNoDate, IsFirstDate}
 
 pub both_right : (a b : Bool) → (a && b) ≡ true → b ≡ true
@@ -154,41 +156,50 @@ place-lt a b x y is_x is_y lt =
       | inr ge ↦ absurd (let back = epoch_day-le b a y x is_y is_x ge in omega (arith, signed_arith, back))
     ]
 
-epoch : Date
-epoch = record { year = pos 1970; month = 1; day = 1; year_in = search rules; month_in = search rules; day_in = search rules }
+first : Date
+first = record { year = pos 0; month = 1; day = 1; year_in = search rules; month_in = search rules; day_in = search rules }
 
-epoch_day-epoch : epoch_day epoch ≡ pos 0
-unfolding epoch
-epoch_day-epoch = omega (arith, signed_arith, days_from_civil-day_count (pos 1970) 1 1, day_count-epoch)
+-- 0000-01-01 is this long before 1970-01-01
+epoch_day-first : epoch_day first +ℤ pos 719528 ≡ pos 0
+unfolding first
+epoch_day-first =
+    let count : day_count (pos 0) 1 1 ≡ 3652425 = day_count-early (pos 0) 9999 1 1 refl (omega arith) (omega arith) (omega arith) in
+    omega (arith, signed_arith, count, days_from_civil-day_count (pos 0) 1 1)
 
-year-epoch : epoch.year ≡ pos 1970
-unfolding epoch
-year-epoch = refl
+year-first : first.year ≡ pos 0
+unfolding first
+year-first = refl
 
 not_negative : (y : ℤ) → pos 0 ≤ℤ y → y ≡ pos (unsigned_abs y)
 not_negative (pos n) h = refl
 not_negative (negsuc n) h = absurd (omega (arith, signed_arith, h))
 
--- a date whose number isn't negative is of a year that isn't negative
-pub year_of : (d : Date) (n : ℕ) → epoch_day d ≡ pos n → d.year ≡ pos (unsigned_abs d.year)
+-- a number that isn't before that of the year 0, counted from there
+pub counted : (z : ℤ) (n base : ℕ) → (pos n -ℤ pos base) ≤ℤ z → z ≡ pos (unsigned_abs (z +ℤ pos base)) -ℤ pos base
+counted z n base h =
+    let shifted = not_negative (z +ℤ pos base) (omega (arith, signed_arith, h)) in
+    omega (arith, signed_arith, shifted)
+
+-- a date whose number isn't before that of the year 0 is of a year that isn't negative
+pub year_of : (d : Date) (n : ℕ) → epoch_day d ≡ pos n -ℤ pos 719528 → d.year ≡ pos (unsigned_abs d.year)
 year_of d n numbered =
     by_lt_z d.year (pos 0) (λ lt.
-    let year : d.year <ℤ epoch.year = rw year-epoch (omega (arith, signed_arith, lt)) in
-    let before = epoch_day-lt d epoch (inl year) in
-    absurd (omega (arith, signed_arith, before, epoch_day-epoch, numbered))) (λ ge. not_negative d.year ge)
+    let year : d.year <ℤ first.year = rw year-first (omega (arith, signed_arith, lt)) in
+    let before = epoch_day-lt d first (inl year) in
+    absurd (omega (arith, signed_arith, before, epoch_day-first, numbered))) (λ ge. not_negative d.year ge)
 
 -- no date of the calendar has a number above that of 9999-12-31
-pub day_in_range : (s : Schedule) (k : ℕ) → DayIn s k → k ≤ 2932896
+pub day_in_range : (s : Schedule) (k : ℕ) → DayIn s k → k ≤ 3652424
 day_in_range s k h =
     let last = (epoch_day_range h.date).1 in
     omega (arith, signed_arith, last, h.numbered)
 
 -- the least date, as the least number of a day
-pub day_found : (s : Schedule) (start date : Date) (n high : ℕ) → epoch_day start ≡ pos n → IsFirstDate s (place (unsigned_abs start.year) start.month start.day) high date → IsLeastFrom (DayIn s) n (Some (unsigned_abs (epoch_day date)))
+pub day_found : (s : Schedule) (start date : Date) (n high : ℕ) → epoch_day start ≡ pos n -ℤ pos 719528 → IsFirstDate s (place (unsigned_abs start.year) start.month start.day) high date → IsLeastFrom (DayIn s) n (Some (unsigned_abs (epoch_day date +ℤ pos 719528)))
 day_found s start date n high numbered first =
     let begun = year_of start n numbered in
     let ordered = epoch_day-le start date _ first.year begun first.is_year first.from in
-    let number : epoch_day date ≡ pos (unsigned_abs (epoch_day date)) = not_negative (epoch_day date) (omega (arith, signed_arith, ordered, numbered)) in (
+    let number = counted (epoch_day date) n 719528 (omega (arith, signed_arith, ordered, numbered)) in (
       omega (arith, signed_arith, ordered, numbered, number),
       record { date = date; numbered = number; found = first.found },
       λ k from below h.
@@ -198,7 +209,7 @@ day_found s start date n high numbered first =
           first.least h.date _ year h.found above under,
     )
 
-pub day_none : (s : Schedule) (start : Date) (n : ℕ) → epoch_day start ≡ pos n → HasNoDate s (place (unsigned_abs start.year) start.month start.day) (place 10000 0 0) → IsLeastFrom (DayIn s) n None
+pub day_none : (s : Schedule) (start : Date) (n : ℕ) → epoch_day start ≡ pos n -ℤ pos 719528 → HasNoDate s (place (unsigned_abs start.year) start.month start.day) (place 10000 0 0) → IsLeastFrom (DayIn s) n None
 day_none s start n numbered none k from h =
     let begun = year_of start n numbered in
     let year = year_of h.date k h.numbered in

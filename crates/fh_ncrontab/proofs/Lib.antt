@@ -1,4 +1,7 @@
 pub mod CarryLemmas
 pub mod DayLemmas
+pub mod MaskLemmas
+pub mod NextLemmas
 pub mod PartLemmas
+pub mod ReadLemmas
 pub mod SetLemmas

@@ -5,7 +5,8 @@ use Rattle.std.proofs.lemmas.Bool.Decides.{nat_tests}
 use Rattle.std.proofs.lemmas.Bool.{cases_lt}
 use Rattle.std.proofs.lemmas.Nat.{shr-shr}
 use Rattle.std.proofs.lemmas.Nat.Bits.{shr_and_one, bit_at_above, bit_at-zero, bit_at-trailing_zeros, bit_at_set_same, bit_at_set_other}
-use Rattle.fh_ncrontab.specs.Sets.{holds, IsSetWithin, IsNextIn}
+use Rattle.fh_ncrontab.specs.Sets.{holds, IsSetWithin}
+use Rattle.fh_ncrontab.specs.Search.{IsNextIn}
 
 -- the code's test
 pub holds-test : (set n : ℕ) → nat_eq (bit_and (set / 2 ^ n) 1) 1 ≡ holds set n

@@ -1,5 +1,6 @@
 -- Dates in the order of the calendar, and the least one whose month, day and weekday are in three sets.
-use Rattle.std.specs.Prelude.{◌≡◌, ℕ, ◌+◌, ◌*◌, ◌%◌, ◌<◌, ◌≤◌, pos, IsTrue, Option, None, Some}
+-- Only private functions cite this.
+use Rattle.std.specs.Prelude.{◌≡◌, ℕ, ◌+◌, ◌*◌, ◌%◌, ◌<◌, ◌≤◌, pos, ◌-ℤ◌, IsTrue, Option, None, Some}
 use Rattle.jiff_core.specs.declared.civil.date.Date.{Date}
 use Rattle.jiff_core.specs.Date.{epoch_day, weekday_of}
 use Rattle.fh_ncrontab.specs.declared.schedule.Schedule.{Schedule}
@@ -11,10 +12,10 @@ pub record DateIn (s : Schedule) (d : Date) : Type 0 where
   pub day : IsTrue (holds s.day d.day)
   pub weekday : IsTrue (holds s.weekday ((weekday_of d + 1) % 7))
 
--- the day with this number, where 1970-01-01 is 0, has such a date
+-- the day with this number, where 0000-01-01 is 0, has such a date
 pub record DayIn (s : Schedule) (number : ℕ) : Type 0 where
   pub date : Date
-  pub numbered : epoch_day date ≡ pos number
+  pub numbered : epoch_day date ≡ pos number -ℤ pos 719528
   pub found : DateIn s date
 
 -- a number that grows with the date: months are below 16, and days below 32

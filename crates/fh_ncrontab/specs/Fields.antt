@@ -1,11 +1,11 @@
 -- What the text of a field stands for, where the field has the numbers from lo to hi.
-use Rattle.std.specs.Prelude.{◌≡◌, ℕ, ◌+◌, ◌-◌, ◌*◌, ◌%◌, Bool, true, false, ◌&&◌, ◌||◌, ◌==◌, nat_le, nat_lt, if◌then◌else◌, List, [], ◌∷◌, length, Option, None, Some, Result, Ok, Err, codes, bytes_eq}
+use Rattle.std.specs.Prelude.{ℕ, ◌+◌, ◌-◌, ◌*◌, ◌%◌, Bool, true, false, ◌&&◌, ◌||◌, ◌==◌, nat_le, nat_lt, if◌then◌else◌, List, [], ◌∷◌, length, Option, None, Some, Result, Ok, Err, codes, bytes_eq}
 use Rattle.std.specs.Option.{option_or}
 use Rattle.std.specs.List.{slice_split, before_first, after_first, position_or_len}
 use Rattle.fh_ncrontab.specs.declared.fault.FieldFault.{FieldFault}
 use Rattle.fh_ncrontab.specs.declared.fault.FieldFault.TheVariants.{Bad, Backward}
 use Rattle.fh_ncrontab.specs.declared.part.Part.{Part}
-use Rattle.fh_ncrontab.specs.Sets.{holds}
+use Rattle.fh_ncrontab.specs.Sets.{mask_of}
 use Rattle.fh_ncrontab.specs.Names.{month_named, day_named}
 
 abbrev pub is_digit : ℕ → Bool
@@ -84,16 +84,6 @@ part_has p n = (nat_le p.first n && nat_le n p.last) && ((n - p.first) % p.step 
 abbrev pub pieces : ℕ → List ℕ → List (List ℕ)
 pieces c text = slice_split (λ b. b == c) text
 
--- the pieces of what is left of a text, if anything is
-abbrev pub pieces_left : ℕ → Option (List ℕ) → List (List ℕ)
-pieces_left c None = []
-pieces_left c (Some text) = pieces c text
-
--- how long what is left is, where nothing counts less than an empty text
-abbrev pub length_left : Option (List ℕ) → ℕ
-length_left None = 0
-length_left (Some text) = 1 + length text
-
 -- the parts of a field stand between commas
 abbrev pub parts : List ℕ → List (List ℕ)
 parts text = pieces 44 text
@@ -116,7 +106,14 @@ unfoldable pub some_part_has : ℕ → ℕ → List (List ℕ) → ℕ → Bool
 some_part_has lo hi [] n = false
 some_part_has lo hi (p ∷ ps) n = result_has (part_of lo hi p) n || some_part_has lo hi ps n
 
--- the set is that of the text, which has no fault
-pub record IsFieldOf (lo hi : ℕ) (text : List ℕ) (set : ℕ) : Type 0 where
-  pub faultless : first_fault lo hi (parts text) ≡ None
-  pub numbers : (n : ℕ) → holds set n ≡ some_part_has lo hi (parts text) n
+-- the set of a field's text, where no part of it is faulty
+abbrev pub numbers_of : ℕ → ℕ → List ℕ → ℕ
+numbers_of lo hi text = mask_of (some_part_has lo hi (parts text)) 64
+
+abbrev pub set_or : Option FieldFault → ℕ → Result ℕ FieldFault
+set_or None set = Ok set
+set_or (Some fault) set = Err fault
+
+-- the set of a field's text, or the fault of its first faulty part
+abbrev pub field_of : ℕ → ℕ → List ℕ → Result ℕ FieldFault
+field_of lo hi text = set_or (first_fault lo hi (parts text)) (numbers_of lo hi text)

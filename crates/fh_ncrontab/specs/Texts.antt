@@ -1,22 +1,17 @@
 -- What the text of a schedule stands for.
-use Rattle.std.specs.Prelude.{◌≡◌, ℕ, ◌≤◌, ◌||◌, ◌==◌, nat_lt, if◌then◌else◌, List, [], ◌∷◌, length, filter, slice_index_or, Option, None, Some, option_map, codes}
+use Rattle.std.specs.Prelude.{ℕ, ◌||◌, ◌==◌, nat_lt, if◌then◌else◌, List, [], ◌∷◌, length, filter, slice_index_or, Option, None, Some, is_some, option_map, Result, Ok, Err, codes, pos}
 use Rattle.std.specs.Option.{option_or}
 use Rattle.fh_ncrontab.specs.declared.fault.FieldFault.{FieldFault}
 use Rattle.fh_ncrontab.specs.declared.fault.FieldFault.TheVariants.{Bad, Backward}
 use Rattle.fh_ncrontab.specs.declared.fault.CronFault.{CronFault}
 use Rattle.fh_ncrontab.specs.declared.fault.CronFault.TheVariants.{FieldCount, BadField, BackwardRange, NeverRuns}
 use Rattle.fh_ncrontab.specs.declared.schedule.Schedule.{Schedule}
-use Rattle.fh_ncrontab.specs.Fields.{pieces, parts, first_fault, IsFieldOf}
-use Rattle.fh_ncrontab.specs.Schedule.{IsIn, last_second}
+use Rattle.fh_ncrontab.specs.Fields.{pieces, parts, first_fault, numbers_of}
+use Rattle.fh_ncrontab.specs.Schedule.{first_from}
 
 -- the words of a text stand between runs of spaces
 abbrev pub words : List ℕ → List (List ℕ)
 words text = filter (λ word. nat_lt 0 (length word)) (pieces 32 text)
-
--- the words of what is left of a text, if anything is
-abbrev pub words_left : Option (List ℕ) → List (List ℕ)
-words_left None = []
-words_left (Some text) = words text
 
 -- a schedule has six fields; where five are given, the second is 0
 abbrev pub fields : List ℕ → List (List ℕ)
@@ -45,23 +40,25 @@ text_fault text =
     if (length (words text) == 5) || (length (words text) == 6) then field_fault text
     else Some (FieldCount (length (words text)))
 
--- the text has no fault, and the schedule has the sets of its fields
-pub record IsScheduleOf (text : List ℕ) (s : Schedule) : Type 0 where
-  pub faultless : text_fault text ≡ None
-  pub second : IsFieldOf 0 59 (field text 0) s.second
-  pub minute : IsFieldOf 0 59 (field text 1) s.minute
-  pub hour : IsFieldOf 0 23 (field text 2) s.hour
-  pub day : IsFieldOf 1 31 (field text 3) s.day
-  pub month : IsFieldOf 1 12 (field text 4) s.month
-  pub weekday : IsFieldOf 0 6 (field text 5) s.weekday
+-- the six sets of a text, where no field of it is faulty
+abbrev pub sets_of : List ℕ → Schedule
+sets_of text = record {
+  second = numbers_of 0 59 (field text 0);
+  minute = numbers_of 0 59 (field text 1);
+  hour = numbers_of 0 23 (field text 2);
+  day = numbers_of 1 31 (field text 3);
+  month = numbers_of 1 12 (field text 4);
+  weekday = numbers_of 0 6 (field text 5);
+}
 
--- some second from 1970 to the end of the year 9999 is in the schedule
-abbrev pub Runs : Schedule → Type 0
-Runs s = (second : ℕ) × (second ≤ last_second) × IsIn s second
+-- a schedule that has a second from 1970 to the end of the year 9999
+abbrev pub running : Schedule → Result Schedule CronFault
+running s = if is_some (first_from s (pos 0)) then Ok s else Err NeverRuns
 
--- why a text isn't read: it has the fault, or its schedule has no second
-abbrev pub IsFaultOf : List ℕ → CronFault → Type 0
-IsFaultOf text (FieldCount given) = text_fault text ≡ Some (FieldCount given)
-IsFaultOf text (BadField k) = text_fault text ≡ Some (BadField k)
-IsFaultOf text (BackwardRange k) = text_fault text ≡ Some (BackwardRange k)
-IsFaultOf text NeverRuns = (s : Schedule) × IsScheduleOf text s × ¬ Runs s
+abbrev pub schedule_or : Option CronFault → Schedule → Result Schedule CronFault
+schedule_or None s = running s
+schedule_or (Some fault) s = Err fault
+
+-- the schedule of a text, or why it has none
+unfoldable pub schedule_of : List ℕ → Result Schedule CronFault
+schedule_of text = schedule_or (text_fault text) (sets_of text)

@@ -1,20 +1,24 @@
 // The search for the next day: within a month, over the months of a year, over the years.
-ghost use Rattle.std.specs.Prelude.{◌≡◌, ◌+◌, ◌*◌, ◌%◌, ◌<◌, ◌≤◌, ◌&&◌, pos, unsigned_abs, IfSome, IfNone, IsTrue};
+ghost use Rattle.std.specs.Prelude.{◌≡◌, ◌+◌, ◌*◌, ◌%◌, ◌<◌, ◌≤◌, ◌&&◌, pos, ◌+ℤ◌, ◌-ℤ◌, unsigned_abs, IfSome, IfNone, IsTrue};
 ghost use Rattle.std.specs.Int.{IsInRange};
 ghost use Rattle.jiff_core.specs.Calendar.{days_in_month};
 ghost use Rattle.jiff_core.specs.Date.{epoch_day, weekday_of};
-ghost use Rattle.fh_ncrontab.specs.Sets.{holds, IsLeastFrom};
+ghost use Rattle.fh_ncrontab.specs.Sets.{holds};
+ghost use Rattle.fh_ncrontab.specs.Search.{IsLeastFrom};
 ghost use Rattle.fh_ncrontab.specs.Dates.{DayIn, IsLeastDate, place};
 
 use crate::Schedule;
 use jiff_core::civil::Date;
 
+// The days from 0000-01-01 to 1970-01-01.
+const TO_1970: i64 = 719_528;
+
 impl Schedule {
-    // The least day of the schedule from that day on, where 1970-01-01 is 0.
+    // The least day of the schedule from that day on, where 0000-01-01 is 0.
     pub(crate) fn day_from(&self, day: u64) -> Option<u64>
-        requires { day ≤ 2932897 }
+        requires { day ≤ 3652425 }
         ensures least { IsLeastFrom (DayIn self.now) day result }
-        ensures bound { IfSome result (λ r. r ≤ 2932896) }
+        ensures bound { IfSome result (λ r. r ≤ 3652424) }
     {
         let Some(start) = date_numbered(day) else {
             return None;
@@ -110,11 +114,11 @@ fn date_of(year: u16, month: u8, day: u8) -> Option<Date>
 
 // The date of that day, up to the end of the year 9999.
 fn date_numbered(day: u64) -> Option<Date>
-    requires { day ≤ 2932897 }
-    ensures value { IfSome result (λ d. epoch_day d ≡ pos day) }
-    ensures none { IfNone result (2932896 < day) }
+    requires { day ≤ 3652425 }
+    ensures value { IfSome result (λ d. epoch_day d ≡ pos day -ℤ pos 719528) }
+    ensures none { IfNone result (3652424 < day) }
 {
-    match Date::from_unix_epoch_day(day as i64) {
+    match Date::from_unix_epoch_day(day as i64 - TO_1970) {
         Ok(date) => Some(date),
         Err(_) => None,
     }
@@ -128,11 +132,11 @@ fn year_number(date: Date) -> u16
     date.year.unsigned_abs()
 }
 
-// The number of a date that isn't before 1970.
+// The number of a date that isn't before the year 0.
 fn day_number(date: Date) -> u64
-    ensures { result ≡ unsigned_abs (epoch_day date) }
+    ensures { result ≡ unsigned_abs (epoch_day date +ℤ pos 719528) }
 {
-    date.to_unix_epoch_day().unsigned_abs() as u64
+    (date.to_unix_epoch_day() as i64 + TO_1970).unsigned_abs()
 }
 
 // The day of the week, where Sunday is 0.

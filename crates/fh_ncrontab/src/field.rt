@@ -1,6 +1,7 @@
-ghost use Rattle.std.specs.Prelude.{◌≡◌, ℕ, ◌<◌, ◌≤◌, IsTrue, ◌↔◌, true, SomeIff, Some, IfOk, IfErr};
-ghost use Rattle.fh_ncrontab.specs.Sets.{holds, IsSetWithin, IsNextIn};
-ghost use Rattle.fh_ncrontab.specs.Fields.{IsFieldOf, first_fault, parts};
+ghost use Rattle.std.specs.Prelude.{◌≡◌, ℕ, ◌<◌, ◌≤◌, true, false, MatchOption, Some};
+ghost use Rattle.fh_ncrontab.specs.Sets.{holds, is_mask, all_numbers};
+ghost use Rattle.fh_ncrontab.specs.Search.{IsNextIn};
+ghost use Rattle.fh_ncrontab.specs.Fields.{field_of};
 
 use crate::FieldFault;
 use crate::part::{Part, first_piece};
@@ -32,8 +33,7 @@ impl<const LO: u8, const HI: u8> Field<LO, HI> {
     pub fn read(text: &str) -> Result<Self, FieldFault>
         requires order { LO ≤ HI }
         requires high { HI < 64 }
-        ensures set { IfOk result (λ f. IsFieldOf LO HI text.now f) }
-        ensures fault { IfErr result (λ e. first_fault LO HI (parts text.now) ≡ Some e) }
+        ensures { result ≡ field_of LO HI text.now }
     {
         let mut mask = 0;
         let mut rest = Some(text);
@@ -52,27 +52,37 @@ impl<const LO: u8, const HI: u8> Field<LO, HI> {
         has_bit(self.bits, n)
     }
 
-    /// The set as a mask: bit n stands for the number n.
-    pub(crate) fn mask(&self) -> u64
+    /// The set as a mask: bit n stands for the number n. Takes no memory.
+    pub fn mask(&self) -> u64
         ensures value { result ≡ self.now }
-        ensures set { IsSetWithin LO HI result }
+        ensures mask { is_mask LO HI result ≡ true }
     {
         self.bits
     }
 
-    /// The set with this mask, and `None` where the mask is 0 or has a number outside.
-    pub(crate) fn of_mask(mask: u64) -> Option<Self>
-        ensures { SomeIff result (IsSetWithin LO HI mask) mask }
+    /// The set with this mask, and `None` exactly where the mask is 0 or has a number outside the
+    /// field. Takes no memory.
+    pub fn of_mask(mask: u64) -> Option<Self>
+        requires order { LO ≤ HI }
+        requires high { HI < 64 }
+        ensures { MatchOption result (is_mask LO HI mask ≡ false)
+            (λ f. (is_mask LO HI mask ≡ true) × (f ≡ mask)) }
     {
-        if mask == 0 {
+        if mask == 0 || mask % (1 << LO) != 0 || mask >> HI > 1 {
             return None;
         }
-        for n in 0..64u8 {
-            if has_bit(mask, n) && (n < LO || n > HI) {
-                return None;
-            }
-        }
         Some(Field { bits: mask })
+    }
+
+    /// The set of all numbers of the field, whose mask is the greatest one. Takes no memory.
+    pub fn all() -> Self
+        requires order { LO ≤ HI }
+        requires high { HI < 63 }
+        ensures { result ≡ all_numbers LO HI }
+    {
+        Field {
+            bits: (1 << (HI + 1)) - (1 << LO),
+        }
     }
 
     /// The least number of the set from `n` on.

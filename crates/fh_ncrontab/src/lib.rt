@@ -22,6 +22,7 @@ mod schedule;
 #[cfg(test)]
 mod tests;
 mod text;
+mod times;
 
 pub use fault::{CronFault, FieldFault};
 pub use field::Field;

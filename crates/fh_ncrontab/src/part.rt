@@ -1,7 +1,8 @@
 // One part of a field: `*`, a value or a range, and maybe a step.
 ghost use Rattle.std.specs.Prelude.{◌≡◌, ℕ, ◌<◌, ◌≤◌, ◌||◌, ◌∷◌, length, IfOk, IfSome, option_copied, option_map};
 ghost use Rattle.fh_ncrontab.specs.Sets.{holds};
-ghost use Rattle.fh_ncrontab.specs.Fields.{number_of, named, value_of, cut_at, ends_of, within, part_of, part_has, pieces, pieces_left};
+ghost use Rattle.fh_ncrontab.specs.Fields.{number_of, named, value_of, cut_at, ends_of, within, part_of, part_has, pieces};
+ghost use Rattle.fh_ncrontab.specs.Pieces.{pieces_left};
 
 use crate::FieldFault;
 use crate::names::{day_named, month_named};

@@ -1,7 +1,6 @@
-ghost use Rattle.std.specs.Prelude.{◌≡◌, ◌<◌, ◌≤◌, ◌↔◌, ◌||◌, ◌==◌, length, pos, ◌≤ℤ◌, IsTrue, IsSome, IfSome, IfOk, IfErr, Some};
-ghost use Rattle.fh_ncrontab.specs.Sets.{IsLeastFrom};
-ghost use Rattle.fh_ncrontab.specs.Schedule.{MinuteIn, TimeIn, IsIn, IsNext, masks_of, AreMasks};
-ghost use Rattle.fh_ncrontab.specs.Texts.{words, field_fault, IsScheduleOf, Runs, IsFaultOf};
+ghost use Rattle.std.specs.Prelude.{◌≡◌, ◌≤◌, ◌||◌, ◌==◌, length, true, false, pos, neg_ℤ, ◌≤ℤ◌, ◌+ℤ◌, ◌-ℤ◌, unsigned_abs, option_map, IsTrue, IfSome, IfOk, IfErr, None, MatchOption};
+ghost use Rattle.fh_ncrontab.specs.Schedule.{first_from, next, masks_of, are_masks, with_masks};
+ghost use Rattle.fh_ncrontab.specs.Texts.{words, field_fault, sets_of, schedule_of};
 
 use crate::text::{count_words, read_field};
 use crate::{CronFault, Field};
@@ -19,20 +18,15 @@ pub struct Schedule {
     pub weekday: Field<0, 6>,
 }
 
-const MINUTE: u64 = 60;
-
-const HOUR: u64 = 3600;
-
-const DAY: u64 = 86400;
+// The seconds from 0000-01-01T00:00:00 to 1970-01-01T00:00:00.
+const TO_1970: i64 = 62_167_219_200;
 
 impl Schedule {
     /// Reads the text of a schedule: six fields between runs of spaces, or five with the second 0.
     /// Faults come by the count of fields, then by the first faulty field from the left, and then
     /// `NeverRuns`. Takes no memory.
     pub fn read(text: &str) -> Result<Schedule, CronFault>
-        ensures sets { IfOk result (λ s. IsScheduleOf text.now s) }
-        ensures runs { IfOk result (λ s. Runs s) }
-        ensures fault { IfErr result (λ e. IsFaultOf text.now e) }
+        ensures { result ≡ schedule_of text.now }
     {
         let given = count_words(text);
         if given != 5 && given != 6 {
@@ -49,7 +43,8 @@ impl Schedule {
     fn read_fields(text: &str, given: u64) -> Result<Schedule, CronFault>
         requires given { given ≡ length (words text.now) }
         requires count { IsTrue ((given == 5) || (given == 6)) }
-        ensures sets { IfOk result (λ s. IsScheduleOf text.now s) }
+        ensures faultless { IfOk result (λ s. field_fault text.now ≡ None) }
+        ensures sets { IfOk result (λ s. s ≡ sets_of text.now) }
         ensures fault { IfErr result (λ e. field_fault text.now ≡ Some e) }
     {
         let second = read_field(text, given, 0)?;
@@ -70,8 +65,8 @@ impl Schedule {
 
     /// The sets as masks, in the order of the fields: bit n stands for the number n.
     pub fn masks(&self) -> [u64; 6]
-        ensures masks { result ≡ masks_of self.now }
-        ensures sets { AreMasks result }
+        ensures value { result ≡ masks_of self.now }
+        ensures masks { are_masks result ≡ true }
     {
         [
             self.second.mask(),
@@ -86,8 +81,9 @@ impl Schedule {
     /// The schedule with these masks, and `None` exactly where a mask is 0 or has a number outside
     /// its field. It may be one that never runs.
     pub fn of_masks(masks: [u64; 6]) -> Option<Schedule>
-        ensures some { IsSome result ↔ AreMasks masks }
-        ensures schedule { IfSome result (λ s. masks_of s ≡ masks) }
+        ensures exact { MatchOption result (are_masks masks ≡ false)
+            (λ s. (are_masks masks ≡ true) × (s ≡ with_masks masks)) }
+        ensures masks { IfSome result (λ s. masks_of s ≡ masks) }
     {
         let [second, minute, hour, day, month, weekday] = masks;
         Some(Schedule {
@@ -100,87 +96,42 @@ impl Schedule {
         })
     }
 
-    /// The least second of the schedule after `second`, up to the end of the year 9999.
+    /// The least second of the schedule after `second`, up to the end of the year 9999, and `None`
+    /// exactly where there is none. Seconds are counted from 1970-01-01T00:00:00. Takes no memory.
     pub fn next_after(&self, second: i64) -> Option<i64>
         requires low { pos 0 ≤ℤ second }
         requires high { second ≤ℤ pos 253402300799 }
-        ensures { IsNext self.now second result }
+        ensures { result ≡ option_map pos (next self.now (unsigned_abs second)) }
     {
-        let next = self.first_from(second as u64 + 1)?;
-        Some(next as i64)
+        self.first_from(second + 1)
     }
 
-    // The least second from `second` on.
-    pub(crate) fn first_from(&self, second: u64) -> Option<u64>
-        requires { second ≤ 253402300800 }
-        ensures least { IsLeastFrom (IsIn self.now) second result }
-        ensures bound { IfSome result (λ r. r ≤ 253402300799) }
+    /// The least second of the schedule from `second` on, that second included, up to the end of the
+    /// year 9999. Seconds are those of a civil clock, from the year 0 on: counted from its
+    /// 1970-01-01T00:00:00, and negative before it. Takes no memory.
+    pub fn first_from(&self, second: i64) -> Option<i64>
+        requires low { neg_ℤ (pos 62167219200) ≤ℤ second }
+        requires high { second ≤ℤ pos 253402300800 }
+        ensures { result ≡ first_from self.now second }
     {
-        let (today, now) = (second / DAY, second % DAY);
-        let Some(day) = self.day_from(today) else {
-            return None;
-        };
-        if day > today {
-            return Some(day * DAY + self.first_time());
-        }
-        if let Some(time) = self.time_from(now) {
-            return Some(day * DAY + time);
-        }
-        let Some(day) = self.day_from(today + 1) else {
-            return None;
-        };
-        Some(day * DAY + self.first_time())
+        let found = self.search(from_year_0(second))?;
+        Some(from_1970(found))
     }
+}
 
-    // The least second of a day from `now` on.
-    fn time_from(&self, now: u64) -> Option<u64>
-        requires { now < 86400 }
-        ensures least { IsLeastFrom (TimeIn self.now) now result }
-        ensures bound { IfSome result (λ r. r < 86400) }
-    {
-        let (this, rest) = ((now / HOUR) as u8, now % HOUR);
-        let hour = self.hour.first_from(this)?;
-        if hour > this {
-            return Some(hour as u64 * HOUR + self.first_minute());
-        }
-        if let Some(time) = self.minute_from(rest) {
-            return Some(hour as u64 * HOUR + time);
-        }
-        let hour = self.hour.first_from(this + 1)?;
-        Some(hour as u64 * HOUR + self.first_minute())
-    }
+// Seconds from the year 0 on, of seconds that are counted from 1970 on.
+fn from_year_0(second: i64) -> u64
+    requires low { neg_ℤ (pos 62167219200) ≤ℤ second }
+    requires high { second ≤ℤ pos 253402300800 }
+    ensures { result ≡ unsigned_abs (second +ℤ pos 62167219200) }
+{
+    (second + TO_1970) as u64
+}
 
-    // The least second of an hour from `now` on.
-    fn minute_from(&self, now: u64) -> Option<u64>
-        requires { now < 3600 }
-        ensures least { IsLeastFrom (MinuteIn self.now) now result }
-        ensures bound { IfSome result (λ r. r < 3600) }
-    {
-        let (this, rest) = ((now / MINUTE) as u8, (now % MINUTE) as u8);
-        let minute = self.minute.first_from(this)?;
-        if minute > this {
-            return Some(minute as u64 * MINUTE + self.second.least() as u64);
-        }
-        if let Some(second) = self.second.first_from(rest) {
-            return Some(minute as u64 * MINUTE + second as u64);
-        }
-        let minute = self.minute.first_from(this + 1)?;
-        Some(minute as u64 * MINUTE + self.second.least() as u64)
-    }
-
-    // The least second of a day.
-    fn first_time(&self) -> u64
-        ensures least { IsLeastFrom (TimeIn self.now) 0 (Some result) }
-        ensures bound { result < 86400 }
-    {
-        self.hour.least() as u64 * HOUR + self.first_minute()
-    }
-
-    // The least second of an hour.
-    fn first_minute(&self) -> u64
-        ensures least { IsLeastFrom (MinuteIn self.now) 0 (Some result) }
-        ensures bound { result < 3600 }
-    {
-        self.minute.least() as u64 * MINUTE + self.second.least() as u64
-    }
+// And the other way round.
+fn from_1970(second: u64) -> i64
+    requires { second ≤ 315569519999 }
+    ensures { result ≡ pos second -ℤ pos 62167219200 }
+{
+    second as i64 - TO_1970
 }

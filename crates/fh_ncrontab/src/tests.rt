@@ -132,6 +132,29 @@ fn the_next_second_is_the_least_one(rt: HostRuntime) -> Result<(), Fail> {
     Ok(())
 }
 
+// The text, a second of a civil clock, and the first second of the schedule from that one on.
+const FROM: [(&str, i64, Option<i64>); 6] = [
+    ("0 0 0 1 1 *", 1767225600, Some(1767225600)),
+    ("0 0 0 1 1 *", 1767225601, Some(1798761600)),
+    ("0 0 23 31 12 *", -86400, Some(-3600)),
+    ("0 0 0 29 2 *", -62167219200, Some(-62162121600)),
+    ("59 59 23 31 12 *", 253402300799, Some(253402300799)),
+    ("* * * * * *", 253402300800, None),
+];
+
+#[test]
+fn a_search_begins_at_its_own_second(rt: HostRuntime) -> Result<(), Fail> {
+    for (text, second, next) in FROM {
+        assert!(rt; second >= -62167219200 && second <= 253402300800);
+        assert_eq!(rt;
+            Schedule::read(text)?.first_from(second),
+            next,
+            "{text} from {second}"
+        );
+    }
+    Ok(())
+}
+
 // Whether the second's date and time have their six numbers in the sets.
 fn is_in(rt: &impl Abort, schedule: &Schedule, second: u64) -> bool {
     let day = (second / 86400).min(2932896);
@@ -190,6 +213,27 @@ fn masks_carry_a_schedule(rt: HostRuntime) -> Result<(), Fail> {
     assert_eq!(rt; Schedule::of_masks([1, 1, 0, 2, 2, 1]), None, "no hour");
     assert_eq!(rt; Schedule::of_masks([1, 1, 1, 2, 8192, 1]), None, "month 13");
     Ok(())
+}
+
+#[test]
+fn a_mask_is_judged_by_its_field(rt: HostRuntime) {
+    let months = [
+        (0, false),
+        (1, false),
+        (2, true),
+        (4096, true),
+        (8190, true),
+        (8192, false),
+    ];
+    for (mask, is_one) in months {
+        let field: Option<Field<1, 12>> = Field::of_mask(mask);
+        assert_eq!(rt; field.is_some(), is_one, "{mask}");
+    }
+    assert_eq!(rt; Field::<0, 59>::all().mask(), 1152921504606846975);
+    assert_eq!(rt; Field::<0, 23>::all().mask(), 16777215);
+    assert_eq!(rt; Field::<1, 31>::all().mask(), 4294967294);
+    assert_eq!(rt; Field::<1, 12>::all().mask(), 8190);
+    assert_eq!(rt; Field::<0, 6>::all().mask(), 127);
 }
 
 #[test]

@@ -1,7 +1,8 @@
 // The text of a schedule: words between runs of spaces, each read as a field.
-ghost use Rattle.std.specs.Prelude.{◌≡◌, ℕ, ◌<◌, ◌≤◌, ◌||◌, ◌==◌, ◌∷◌, [], Some, length, slice_index_or, IsTrue, IfOk, IfErr, IfSome, IfNone, option_copied};
-ghost use Rattle.fh_ncrontab.specs.Fields.{IsFieldOf, length_left};
-ghost use Rattle.fh_ncrontab.specs.Texts.{words, words_left, field, fault_at};
+ghost use Rattle.std.specs.Prelude.{◌≡◌, ℕ, ◌<◌, ◌≤◌, ◌||◌, ◌==◌, ◌∷◌, [], Some, None, length, slice_index_or, IsTrue, IfOk, IfErr, IfSome, IfNone, option_copied};
+ghost use Rattle.fh_ncrontab.specs.Fields.{numbers_of};
+ghost use Rattle.fh_ncrontab.specs.Texts.{words, field, fault_at};
+ghost use Rattle.fh_ncrontab.specs.Pieces.{words_left, length_left};
 
 use crate::part::first_piece;
 use crate::{CronFault, Field, FieldFault};
@@ -17,7 +18,8 @@ pub(crate) fn read_field<const LO: u8, const HI: u8>(
     requires given { given ≡ length (words text.now) }
     requires count { IsTrue ((given == 5) || (given == 6)) }
     requires number { number < 6 }
-    ensures set { IfOk result (λ f. IsFieldOf LO HI (field text.now number) f) }
+    ensures faultless { IfOk result (λ f. fault_at number LO HI text.now ≡ None) }
+    ensures set { IfOk result (λ f. f ≡ numbers_of LO HI (field text.now number)) }
     ensures fault { IfErr result (λ e. fault_at number LO HI text.now ≡ Some e) }
 {
     match Field::read(field_text(text, given, number)) {

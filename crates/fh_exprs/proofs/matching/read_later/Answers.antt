@@ -1,7 +1,7 @@
 use Rattle.std.proofs.Common.{rules, sym, subst, ◌-◌, drop, List, ℕ, arith, ◌∷◌}
 use Rattle.std.specs.Str.{IsUtf8}
 use Rattle.fh_exprs.specs.Layout.{Spot}
-use Rattle.fh_exprs.specs.Matching.{IsTail, IsLastCut, HasNoCut}
+use Rattle.fh_exprs.specs.Tails.{IsTail, IsLastCut, HasNoCut}
 use Rattle.fh_exprs.proofs.Readings.{ArePlain, tail_dropped, none_more, spot_at, ends_more}
 use Rattle.fh_exprs.proofs.matching.read_later.Goals as goal
 

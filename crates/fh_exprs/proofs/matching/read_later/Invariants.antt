@@ -1,7 +1,7 @@
 use Rattle.std.proofs.Common.{◌≤◌, length, drop}
 use denote.Text.{Utf8}
 use denote.Shadow.{shadow}
-use Rattle.fh_exprs.specs.Matching.{EndsAs}
+use Rattle.fh_exprs.specs.Tails.{EndsAs}
 use Rattle.fh_exprs.proofs.Readings.{ArePlain}
 use Rattle.fh_exprs.proofs.matching.read_later.Given as goal
 

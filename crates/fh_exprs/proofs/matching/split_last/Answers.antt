@@ -2,7 +2,7 @@ use Rattle.std.proofs.Common.{◌≡◌, ◌∙◌, sym, ap, ◌++◌, length, d
 use Rattle.std.specs.Str.{IsUtf8, IsCharBoundary}
 use Rattle.std.proofs.Math.Utf8.{encode}
 use Rattle.std.proofs.lemmas.Str.{IsUtf8-take}
-use Rattle.fh_exprs.specs.Matching.{IsLastCut}
+use Rattle.fh_exprs.specs.Tails.{IsLastCut}
 use Rattle.fh_exprs.proofs.LastCut.{no_cut, last_cut, found_boundary}
 use Rattle.fh_exprs.proofs.matching.split_last.Goals as goal
 

@@ -1,6 +1,6 @@
 use Rattle.std.proofs.Common.{◌≡◌, ◌+◌, ◌≤◌, length, option_copied}
-use Rattle.fh_ncrontab.specs.Fields.{length_left}
-use Rattle.fh_ncrontab.specs.Texts.{words, words_left}
+use Rattle.fh_ncrontab.specs.Texts.{words}
+use Rattle.fh_ncrontab.specs.Pieces.{words_left, length_left}
 use Rattle.fh_ncrontab.proofs.text.count_words.Given as goal
 
 abbrev pub invariant-loop-after : goal.invariant-loop-after

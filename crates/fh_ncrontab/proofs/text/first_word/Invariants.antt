@@ -1,6 +1,5 @@
 use Rattle.std.proofs.Common.{◌≡◌, ◌≤◌, option_copied}
-use Rattle.fh_ncrontab.specs.Fields.{length_left}
-use Rattle.fh_ncrontab.specs.Texts.{words_left}
+use Rattle.fh_ncrontab.specs.Pieces.{words_left, length_left}
 use Rattle.fh_ncrontab.proofs.text.first_word.Given as goal
 
 abbrev pub invariant-loop-rest : goal.invariant-loop-rest

@@ -1,6 +1,6 @@
 use Rattle.std.proofs.Common.{◌≡◌, ◌<◌, length, [], slice_index_or, option_copied}
-use Rattle.fh_ncrontab.specs.Fields.{length_left}
-use Rattle.fh_ncrontab.specs.Texts.{words, words_left}
+use Rattle.fh_ncrontab.specs.Texts.{words}
+use Rattle.fh_ncrontab.specs.Pieces.{words_left, length_left}
 use Rattle.fh_ncrontab.proofs.text.word.Given as goal
 
 abbrev pub invariant-loop-word : goal.invariant-loop-word

@@ -1,6 +1,7 @@
 use Rattle.std.proofs.Common.{◌≡◌, ◌+◌, ◌%◌, ◌≤◌, sym, ◌∙◌, Some, true, arith}
 use Rattle.jiff_core.specs.Date.{weekday_of}
-use Rattle.fh_ncrontab.specs.Sets.{holds, IsNextIn}
+use Rattle.fh_ncrontab.specs.Sets.{holds}
+use Rattle.fh_ncrontab.specs.Search.{IsNextIn}
 use Rattle.fh_ncrontab.specs.Dates.{HasNoDate, place}
 use Rattle.fh_ncrontab.proofs.DayLemmas.{both_right, both_hold, first_in_month, no_date_before, no_date_on, no_date_past}
 use Rattle.fh_ncrontab.proofs.schedule.Schedule.date_in_month.Goals as goal

@@ -1,5 +1,5 @@
 use Rattle.std.proofs.Common.{unsigned_abs, Some, arith}
-use Rattle.fh_ncrontab.specs.Sets.{IsLeastFrom}
+use Rattle.fh_ncrontab.specs.Search.{IsLeastFrom}
 use Rattle.fh_ncrontab.specs.Dates.{DayIn, IsFirstDate, place}
 use Rattle.fh_ncrontab.proofs.DayLemmas.{day_in_range, day_found, day_none}
 use Rattle.fh_ncrontab.proofs.schedule.Schedule.day_from.Goals as goal

@@ -1,31 +1,25 @@
-use Rattle.std.proofs.Common.{◌≡◌, ◌/◌, arith}
-use Rattle.fh_ncrontab.specs.Dates.{DayIn}
-use Rattle.fh_ncrontab.specs.Schedule.{TimeIn}
-use Rattle.fh_ncrontab.proofs.CarryLemmas.{carry-later, carry-apart, carry-on, carry-here, carry-none_on}
+use Rattle.std.proofs.Common.{◌≡◌, ◌≤◌, Some, None, ap, ◌∙◌, pos, ◌+ℤ◌, unsigned_abs, to_z, of_z, w64}
+use Rattle.std.proofs.lemmas.Int.{to_z-of_z}
+use Rattle.fh_ncrontab.specs.Schedule.{first_from}
+use Rattle.fh_ncrontab.proofs.NextLemmas.{second_at, end, first_from-is, back, within_end, second_back}
 use Rattle.fh_ncrontab.proofs.schedule.Schedule.first_from.Goals as goal
 
-pub returns-then-day-today-clause-least : goal.returns-then-day-today-clause-least
-returns-then-day-today-clause-least c =
-    let s = c.args.self.now in
-    let x = c.args.second in
-    carry-later (DayIn s) (TimeIn s) x _ _ c.first_time.ensures.bound c.if-day-today.true (carry-apart (DayIn s) (TimeIn s) x _ c.in-Some.ensures.least) c.in-Some.ensures.least.1 c.first_time.ensures.least
+pub returns-in_err-found : goal.returns-in_err-found
+returns-in_err-found c =
+    let n = c.from_year_0.result in
+    let kept : n ≡ unsigned_abs (c.args.second +ℤ pos 62167219200) =
+    c.from_year_0.ensures ∙ ap (λ z. unsigned_abs (z +ℤ pos 62167219200)) (to_z-of_z w64 c.args.second c.ranges.second) in
+    let same : second_at n ≡ c.args.second = ap second_at kept ∙ back c.args.second c.requires.low in
+    let small : n ≤ end = rw kept (within_end c.args.second c.requires.low c.requires.high) in
+    c.from_residual.ensures ∙ first_from-is c.args.self.now n None small c.in_err-found.ensures.least tt ∙ ap (first_from c.args.self.now) same
 
-pub returns-in-Some-time_from-clause-least : goal.returns-in-Some-time_from-clause-least
-returns-in-Some-time_from-clause-least c =
-    let s = c.args.self.now in
-    let x = c.args.second in
-    let least = c.in-Some.ensures.least in
-    let today : c.in-Some.day ≡ x / 86400 = omega (arith, least.0) in
-    carry-here (DayIn s) (TimeIn s) x _ _ c.in-Some-time_from.ensures.bound today least.1 c.in-Some-time_from.ensures.least
-
-pub returns-in_default-day_from-clause-least : goal.returns-in_default-day_from-clause-least
-returns-in_default-day_from-clause-least c =
-    let s = c.args.self.now in
-    carry-none_on (DayIn s) (TimeIn s) c.args.second c.in_default-time_from.ensures.least c.in_default-day_from.ensures.least
-
-pub returns-clause-least : goal.returns-clause-least
-returns-clause-least c =
-    let s = c.args.self.now in
-    let x = c.args.second in
-    let least = c.in-Some-day_from.ensures.least in
-    carry-later (DayIn s) (TimeIn s) x _ _ c.first_time-2.ensures.bound (omega (arith, least.0)) (carry-on (DayIn s) (TimeIn s) x _ c.in_default-time_from.ensures.least least) least.1 c.first_time-2.ensures.least
+pub returns : goal.returns
+returns c =
+    let n = c.from_year_0.result in
+    let kept : n ≡ unsigned_abs (c.args.second +ℤ pos 62167219200) =
+    c.from_year_0.ensures ∙ ap (λ z. unsigned_abs (z +ℤ pos 62167219200)) (to_z-of_z w64 c.args.second c.ranges.second) in
+    let same : second_at n ≡ c.args.second = ap second_at kept ∙ back c.args.second c.requires.low in
+    let small : n ≤ end = rw kept (within_end c.args.second c.requires.low c.requires.high) in
+    let told : to_z w64 (of_z w64 c.from_1970.result) ≡ second_at c.in_ok-found.found =
+    ap (λ z. to_z w64 (of_z w64 z)) c.from_1970.ensures ∙ second_back c.in_ok-found.found c.in_ok-found.ensures.bound in
+    ap Some told ∙ first_from-is c.args.self.now n (Some c.in_ok-found.found) small c.in_ok-found.ensures.least c.in_ok-found.ensures.bound ∙ ap (first_from c.args.self.now) same
