@@ -3,4 +3,5 @@ pub mod NameLengths
 pub mod Numbers
 pub mod Padding
 pub mod PoisonNames
+pub mod Days
 pub mod Utf8

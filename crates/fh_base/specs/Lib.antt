@@ -11,6 +11,10 @@ pub mod BlobNames
 pub mod Moments
 pub mod Rules
 pub mod Poison
+pub mod Durations
+pub mod Calendar
+pub mod Times
+pub mod MemoryEntropy
 pub mod Numbers
 pub mod Answers
 pub mod Limits

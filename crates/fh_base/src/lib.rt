@@ -14,7 +14,11 @@
 mod blob_name;
 mod both;
 mod bytes;
+mod calendar;
+mod clock;
+mod durations;
 mod ends;
+mod entropy;
 mod fault_plan;
 mod faults;
 mod limits;
@@ -28,11 +32,15 @@ mod sink;
 mod source;
 mod status;
 mod text;
+mod times;
 
 pub use blob_name::is_blob_name;
 pub use both::Both;
 pub use bytes::Bytes;
+pub use clock::{Clock, HostClock, MemoryClock};
+pub use durations::read_duration;
 pub use ends::{PlainEnd, write_last_line};
+pub use entropy::{Entropy, HostEntropy, MemoryEntropy};
 pub use fault_plan::{Failing, FaultPlan};
 pub use faults::{Failed, NoMemory};
 pub use limits::{
@@ -48,6 +56,7 @@ pub use sink::{MemorySink, Sink, StreamSink, write_all};
 pub use source::{MemorySource, Source, StreamSource, read_byte};
 pub use status::Status;
 pub use text::{Text, utf8_text};
+pub use times::{TimeForm, time_text};
 
 #[cfg(test)]
 mod tests;

@@ -194,3 +194,76 @@ fn endless_input_ends_with_a_fault(rt: HostRuntime) -> Result<(), Fail> {
     assert_eq!(rt; source.read(&mut []), Ok(0));
     Ok(())
 }
+
+#[test]
+fn durations_are_read_at_their_edges(rt: HostRuntime) {
+    let read = [
+        ("00:00:00", 0),
+        ("00:01:00", 60_000),
+        ("23:59:59", 86_399_000),
+        ("1.00:00:00", 86_400_000),
+        ("99.23:59:59.9999999", 8_639_999_999),
+        ("00:00:00.5", 500),
+        ("00:00:00.0019999", 1),
+    ];
+    for (text, milliseconds) in read {
+        assert_eq!(rt; read_duration(text), Some(milliseconds));
+    }
+    let refused = [
+        "",
+        "0:00:00",
+        "24:00:00",
+        "00:60:00",
+        "00:00:60",
+        "100.00:00:00",
+        ".00:00:00",
+        "00:00:00.",
+        "00:00:00.12345678",
+        "-00:00:01",
+        "00:00:00 ",
+    ];
+    for text in refused {
+        assert_eq!(rt; read_duration(text), None);
+    }
+}
+
+#[test]
+fn moments_are_written_at_their_edges(rt: HostRuntime) -> Result<(), Fail> {
+    let written = [
+        (0, TimeForm::Offset, "1970-01-01T00:00:00+00:00"),
+        (951_782_400_000, TimeForm::Dashed, "2000-02-29T00-00-00Z"),
+        (
+            1_767_225_600_000,
+            TimeForm::Millis,
+            "2026-01-01T00:00:00.000Z",
+        ),
+        (
+            4_107_542_400_007,
+            TimeForm::Millis,
+            "2100-03-01T00:00:00.007Z",
+        ),
+        (
+            253_402_300_799_999,
+            TimeForm::Offset,
+            "9999-12-31T23:59:59+00:00",
+        ),
+        (
+            253_402_300_800_000,
+            TimeForm::Dashed,
+            "9999-12-31T23-59-59Z",
+        ),
+    ];
+    for (ms, form, text) in written {
+        assert_eq!(rt; time_text(rt.alloc(), ms, form)?.as_str(), text);
+    }
+    Ok(())
+}
+
+#[test]
+fn the_host_has_a_time_and_words(rt: HostRuntime) {
+    let clock = HostClock::new(rt);
+    assert!(rt; 1_700_000_000_000 < clock.now());
+    let mut entropy = HostEntropy::new(rt);
+    let first = entropy.next();
+    assert!(rt; first != entropy.next());
+}
