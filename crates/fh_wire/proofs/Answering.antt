@@ -6,8 +6,8 @@ use Rattle.std.proofs.lemmas.Bool.{cases_lt}
 use Rattle.httparse.specs.declared.spans.HeaderSpan.{HeaderSpan}
 use Rattle.httparse.specs.declared.spans.RequestSpans.{RequestSpans}
 use Rattle.httparse.specs.declared.spans.ResponseSpans.{ResponseSpans}
-use Rattle.httparse.specs.Grammar.{RequestHead, print_request, ReadsRequest, ResponseHead, print_response, status_code}
-use Rattle.httparse.specs.Spans.{IsRequestAt, IsRequestWithin, IsResponseAt, IsResponseWithin, name_and_value}
+use Rattle.httparse.specs.Grammar.{Field, RequestHead, print_request, ReadsRequest, ResponseHead, print_response, status_code}
+use Rattle.httparse.specs.Spans.{IsRequestAt, IsRequestWithin, IsResponseAt, IsResponseWithin, header_bytes, name_and_value}
 use Rattle.httparse.proofs.GrammarLemmas.{request_unique}
 use Rattle.fh_wire.specs.declared.fault.WireFault.{WireFault}
 use Rattle.fh_wire.specs.declared.fault.WireFault.TheVariants.{ReadFault, NoMemory}
@@ -28,6 +28,20 @@ use Rattle.fh_wire.proofs.Sources.{consumes-none, consumes-append}
 -- the same fault of another answer
 recast : {A B : Type 0} (e f : WireFault) → ◌≡◌ {A = Result A WireFault} (Err e) (Err f) → ◌≡◌ {A = Result B WireFault} (Err e) (Err f)
 recast {A} {B} e f is = let same : e ≡ f = cc in rw same refl
+
+-- the fields by the spans in the front
+pub fields_at : (bytes head : List ℕ) (spans used : List HeaderSpan) (fields : List Field) → head ≡ front bytes → used ≡ spans
+    → map (header_bytes (front bytes)) spans ≡ map name_and_value fields
+    → map (header_bytes head) used ≡ map name_and_value fields
+fields_at bytes head spans used fields at_head of_used is =
+    ap (λ (t : List ℕ). map (header_bytes t) used) at_head ∙ ap (map (header_bytes (front bytes))) of_used ∙ is
+
+-- what is behind the head
+pub body_behind : (was now : Option (List ℕ)) (r : Result (List ℕ) WireFault) (needed : ℕ) (begun rest : List ℕ) → begun ≡ rest
+    → AnswersBy was now r (λ more. body_of needed (begun ++ more)) (λ all. length all - length begun)
+    → AnswersBy was now r (λ more. body_of needed (rest ++ more)) (λ all. length all - length rest)
+body_behind was now r needed begun rest is =
+    subst (λ (t : List ℕ). AnswersBy was now r (λ more. body_of needed (t ++ more)) (λ all. length all - length t)) is
 
 -- ---- requests
 
@@ -60,12 +74,12 @@ needs_give h f n needed rest are is =
 
 -- a fault of the body is the request's
 pub body_fails : (was now : Option (List ℕ)) (h : RequestHead) (begun : List ℕ) (f : Framing) (n needed : ℕ) (e : WireFault)
-    (room : List ℕ → ℕ) → AreNeeds h f n → Ok needed ≡ request_needs f n
-    → AnswersBy was now (Err e) (λ rest. body_of needed (begun ++ rest)) room
+    → AreNeeds h f n → Ok needed ≡ request_needs f n
+    → AnswersBy was now (Err e) (λ rest. body_of needed (begun ++ rest)) (λ all. length all - length begun)
     → AnswersBy was now (Err e) (λ rest. request_of h (begun ++ rest)) (λ m. length m.body - length begun)
-body_fails was now h begun f n needed e room are is (inl unread) = inl (recast e ReadFault unread)
-body_fails was now h begun f n needed e room are is (inr (inl none)) = inr (inl (recast e NoMemory none))
-body_fails was now h begun f n needed e room are is (inr (inr reads)) = inr (inr (record {
+body_fails was now h begun f n needed e are is (inl unread) = inl (recast e ReadFault unread)
+body_fails was now h begun f n needed e are is (inr (inl none)) = inr (inl (recast e NoMemory none))
+body_fails was now h begun f n needed e are is (inr (inr reads)) = inr (inr (record {
   taken = reads.taken;
   consumed = reads.consumed;
   is = ap (of_body h) reads.is ∙ needs_give h f n needed (begun ++ (reads.taken ++ known now)) are is;
@@ -107,7 +121,7 @@ ends_soon (Ok m) h all begun taken soon is few =
     ]
 
 -- a head that was found, and what is behind it, is the request
-pub whole_request : (was mid now : Option (List ℕ)) (bytes : List ℕ) (fields : List HeaderSpan) (r : RequestSpans)
+whole_request : (was mid now : Option (List ℕ)) (bytes : List ℕ) (fields : List HeaderSpan) (r : RequestSpans)
     (h : RequestHead) (q : Result HttpIn WireFault) → Consumes was mid bytes → IsRequestAt (front bytes) fields r h
     → IsTakenRequest h → IsRequestWithin (front bytes) fields r → length bytes < r.len + 16384
     → AnswersBy mid now q (λ rest. request_of h (drop r.len bytes ++ rest)) (λ m. length m.body - length (drop r.len bytes))
@@ -124,12 +138,12 @@ whole_request was mid now bytes fields r h q read found taken within soon (inr (
       taken = bytes ++ reads.taken;
       consumed = consumes-append was mid now bytes reads.taken (bytes ++ reads.taken) refl read reads.consumed;
       is = whole h rest
-      (record {
-        taken = taken;
-        reads = (found.reads.0, all);
-        within = omega (arith, found.len, within.section.len_fits, front_few bytes);
-      })
-      reads.is;
+          (record {
+            taken = taken;
+            reads = (found.reads.0, all);
+            within = omega (arith, found.len, within.section.len_fits, front_few bytes);
+          })
+          reads.is;
       few = λ k other is.
           let same = request_unique ((bytes ++ reads.taken) ++ known now) h k rest other (found.reads.0, all) is in
           subst (λ (j : RequestHead). IfOk q (EndsSoon (length (bytes ++ reads.taken)) j)) same.0
@@ -138,46 +152,19 @@ whole_request was mid now bytes fields r h q read found taken within soon (inr (
           (ap length stands ∙ length-append (print_request h) (drop r.len bytes)) reads.few));
     }))
 
+-- the same by a slice of the bytes
+pub whole_request_at : (was mid now : Option (List ℕ)) (bytes slice : List ℕ) (fields : List HeaderSpan) (r : RequestSpans)
+    (h : RequestHead) (q : Result HttpIn WireFault) → slice ≡ bytes → Consumes was mid bytes → IsRequestAt (front bytes) fields r h
+    → IsTakenRequest h → IsRequestWithin (front bytes) fields r → length bytes < r.len + 16384
+    → (IsRequestAt (front slice) fields r h
+        → AnswersBy mid now q (λ rest. request_of h (drop r.len slice ++ rest)) (λ m. length m.body - length (drop r.len slice)))
+    → UnlessUnread q (ReadsRequestFrom was now q)
+whole_request_at was mid now bytes slice fields r h q same read found taken within soon behind =
+    whole_request was mid now bytes fields r h q read found taken within soon
+    (subst (λ (t : List ℕ). AnswersBy mid now q (λ rest. request_of h (drop r.len t ++ rest)) (λ m. length m.body - length (drop r.len t))) same
+    (behind (subst (λ (t : List ℕ). IsRequestAt (front t) fields r h) (sym same) found)))
+
 -- ---- responses
-
-abbrev of_status : ℕ → Result (List ℕ) WireFault → Result HttpBack WireFault
-of_status status read = read >>= λ body. Ok (record { status = status; body = body })
-
-abbrev pub AreResponseNeeds : ResponseHead → List ℕ → Framing → ℕ → ℕ → Type 0
-AreResponseNeeds h rest f n got =
-    (f ≡ framing (map name_and_value h.fields)) × (n ≡ length (print_response h)) × (got ≡ length rest)
-
-response_needs_are : (h : ResponseHead) (rest : List ℕ) (f : Framing) (n got : ℕ) → AreResponseNeeds h rest f n got
-    → response_needs f n got ≡ response_needs (framing (map name_and_value h.fields)) (length (print_response h)) (length rest)
-response_needs_are h rest f n got are =
-    ap (λ (g : Framing). response_needs g n got) are.0
-    ∙ ap (λ (m : ℕ). response_needs (framing (map name_and_value h.fields)) m got) are.1
-    ∙ ap (response_needs (framing (map name_and_value h.fields)) (length (print_response h))) are.2
-
-pub response_fields_fail : (h : ResponseHead) (rest : List ℕ) (f : Framing) (n got : ℕ) (e : WireFault)
-    → AreResponseNeeds h rest f n got → Err e ≡ response_needs f n got → Err e ≡ response_of h rest
-response_fields_fail h rest f n got e are is =
-    ap (λ (r : Result ℕ WireFault). r >>= λ needed. of_status (status_code h) (body_of needed rest)) (is ∙ response_needs_are h rest f n got are)
-
-response_needs_give : (h : ResponseHead) (rest : List ℕ) (f : Framing) (n got needed : ℕ) → AreResponseNeeds h rest f n got
-    → Ok needed ≡ response_needs f n got → of_status (status_code h) (body_of needed rest) ≡ response_of h rest
-response_needs_give h rest f n got needed are is =
-    ap (λ (r : Result ℕ WireFault). r >>= λ needed. of_status (status_code h) (body_of needed rest)) (is ∙ response_needs_are h rest f n got are)
-
-pub response_body_fails : (h : ResponseHead) (rest : List ℕ) (f : Framing) (n got needed : ℕ) (e : WireFault)
-    → AreResponseNeeds h rest f n got → Ok needed ≡ response_needs f n got
-    → UnlessNoMemory (Err e) (Err e ≡ body_of needed rest) → UnlessNoMemory (Err e) (Err e ≡ response_of h rest)
-response_body_fails h rest f n got needed e are is (inl none) = inl (recast e NoMemory none)
-response_body_fails h rest f n got needed e are is (inr body) =
-    inr (ap (of_status (status_code h)) body ∙ response_needs_give h rest f n got needed are is)
-
-pub response_body_gives : (h : ResponseHead) (rest : List ℕ) (f : Framing) (n got needed status : ℕ) (body : List ℕ)
-    → AreResponseNeeds h rest f n got → Ok needed ≡ response_needs f n got → status ≡ status_code h
-    → UnlessNoMemory (Ok body) (Ok body ≡ body_of needed rest)
-    → Ok (record { status = status; body = body }) ≡ response_of h rest
-response_body_gives h rest f n got needed status body are is code (inl none) = absurd cc
-response_body_gives h rest f n got needed status body are is code (inr read) =
-    ap (of_status status) read ∙ ap (λ (s : ℕ). of_status s (body_of needed rest)) code ∙ response_needs_give h rest f n got needed are is
 
 -- the answer by a head's spans is the answer by the head
 pub answered : (bytes : List ℕ) (fields : List HeaderSpan) (r : ResponseSpans) (h : ResponseHead) (given : Result HttpBack WireFault)

@@ -1,6 +1,5 @@
 pub mod HeadLines
 pub mod Fronts
-pub mod Numbers
 pub mod WrittenHeads
 pub mod FrontBytes
 pub mod Refusing

@@ -1,6 +1,7 @@
 -- What the bytes that have come say of all the bytes of a source.
 use Rattle.std.proofs.Common.{◌≡◌, ℕ, ◌+◌, ◌-◌, ◌<◌, ◌≤◌, ◌==◌, nat_lt, Bool, true, false, ◌||◌, if◌then◌else◌, List, [], ◌∷◌, ◌++◌, length, take, drop, Option, Some, None, Result, Ok, Err, refl, sym, ap, ◌∙◌, subst, arith, append_assoc, append-nil, length-append, inl, inr}
-use Rattle.std.specs.Prelude.{◌⊎◌, IfOk}
+use Rattle.std.specs.Prelude.{◌⊎◌, IfOk, unwrap_or}
+use Rattle.fh_base.specs.Faults.{Rose}
 use Rattle.std.specs.List.{fold}
 use Rattle.std.specs.Io.KnownBytes.{Consumes, IsAtEnd}
 use Rattle.std.proofs.lemmas.Bool.{cases_lt}
@@ -10,16 +11,17 @@ use Rattle.std.proofs.lemmas.List.Sums.{fold-append}
 use Rattle.httparse.specs.Grammar.{RequestHead, print_request, ReadsRequest, HasNoRequest}
 use Rattle.httparse.proofs.GrammarLemmas.{request_unique}
 use Rattle.fh_wire.specs.declared.fault.WireFault.{WireFault}
-use Rattle.fh_wire.specs.declared.fault.WireFault.TheVariants.{BadHead, TooLong, Cut}
+use Rattle.fh_wire.specs.declared.fault.WireFault.TheVariants.{BadHead, BadLength, TooLong, Cut, Chunked, Coded, ReadFault, WriteFault, NoMemory}
+use Rattle.fh_wire.specs.declared.fields.Framing.{Framing}
 use Rattle.fh_wire.specs.declared.request.HttpIn.{HttpIn}
 use Rattle.fh_wire.specs.declared.scan.Scan.{Scan}
-use Rattle.fh_wire.specs.Causes.{Passes, IsReadCause}
+use Rattle.fh_wire.specs.Causes.{Passes, IsReadCause, HasReadCause}
 use Rattle.fh_wire.specs.Scan.{fresh, stepped}
 use Rattle.fh_wire.specs.Fronts.{IsRefusedRequest, IsOpenRequest}
 use Rattle.fh_wire.specs.Messages.{front, RequestIs}
 use Rattle.fh_wire.specs.Messages.RequestIs.{refused, unended}
 use Rattle.fh_wire.specs.Reading.{known, Brings, ReadsBy, ReadsRequestFrom}
-use Rattle.fh_wire.specs.Sizes.{unfinished, body_of}
+use Rattle.fh_wire.specs.Sizes.{◌>>=◌, unfinished, fitting, request_needs, body_of}
 use Rattle.fh_wire.proofs.FrontBytes.{front_grows, front_full, front_begins}
 use Rattle.fh_wire.proofs.Refusing.{refused_onward}
 
@@ -166,3 +168,59 @@ unfinished_passes a b u v n fault is passed =
     by_test : (t : Bool) → IsReadCause a b u v (if t then TooLong else Cut n 0)
     by_test true = passed
     by_test false = passed
+
+-- a body that has come with the head
+pub begun_whole : (was : Option (List ℕ)) (begun body : List ℕ) (needed : ℕ) → body ≡ take needed begun → needed ≤ length begun
+    → ReadsBy was was (Ok body) (λ rest. body_of needed (begun ++ rest)) (λ all. length all - length begun)
+begun_whole was begun body needed is fits =
+    let size : (nat_lt (length (begun ++ ([] ++ known was))) needed) ≡ false = grind (arith, nat_tests, length-append begun ([] ++ known was)) in
+    record {
+      taken = [];
+      consumed = consumes-none was;
+      is = rw size (ap (λ (t : List ℕ). Ok t) (is ∙ sym (take-append-le needed begun ([] ++ known was) fits)));
+      few = omega arith;
+    }
+
+-- what the fields say is no failed read
+pub needs_pass : (a b : ℕ) (u v : Bool) (f : Framing) (n : ℕ) (e : WireFault) → Err e ≡ request_needs f n → Passes a b u v
+    → IsReadCause a b u v e
+needs_pass a b u v f n ReadFault is passed = absurd (no_read f.wide f.chunked f.coded f.unread f.length is)
+  where
+    no_room : (t : Bool) (m : ℕ) → ◌≡◌ {A = Result ℕ WireFault} (Err ReadFault) (if t then Err TooLong else Ok m) → ⊥
+    no_room true m bad = cc
+    no_room false m bad = cc
+
+    no_read : (w x y z : Bool) (given : Option ℕ)
+        → Err ReadFault ≡ ((if w then Err BadHead else if x then Err Chunked else if y then Err Coded else if z then Err BadLength else Ok given) >>= λ got. fitting n (unwrap_or got 0)) → ⊥
+    no_read true x y z given bad = cc
+    no_read false true y z given bad = cc
+    no_read false false true z given bad = cc
+    no_read false false false true given bad = cc
+    no_read false false false false given bad = no_room (nat_lt 2097152 (n + unwrap_or given 0)) (unwrap_or given 0) bad
+needs_pass a b u v f n BadHead is passed = passed
+needs_pass a b u v f n BadLength is passed = passed
+needs_pass a b u v f n TooLong is passed = passed
+needs_pass a b u v f n (Cut got needed) is passed = passed
+needs_pass a b u v f n Chunked is passed = passed
+needs_pass a b u v f n Coded is passed = passed
+needs_pass a b u v f n WriteFault is passed = passed
+needs_pass a b u v f n NoMemory is passed = passed
+
+pub cause-join : {A : Type 0} (a b c : ℕ) (u v w : Bool) (r : Result A WireFault) → Passes a b u v → HasReadCause b c v w r
+    → HasReadCause a c u w r
+cause-join a b c u v w (Ok x) one two = passes-join a b c u v w one two
+cause-join a b c u v w (Err e) one two = by_fault e two
+  where
+    by_fault : (f : WireFault) → IsReadCause b c v w f → IsReadCause a c u w f
+    by_fault ReadFault failed = record {
+      count = subst (λ (n : ℕ). Rose n c) one.count failed.count;
+      unsure = λ was. failed.unsure (one.sure was);
+    }
+    by_fault BadHead passed = passes-join a b c u v w one passed
+    by_fault BadLength passed = passes-join a b c u v w one passed
+    by_fault TooLong passed = passes-join a b c u v w one passed
+    by_fault (Cut got needed) passed = passes-join a b c u v w one passed
+    by_fault Chunked passed = passes-join a b c u v w one passed
+    by_fault Coded passed = passes-join a b c u v w one passed
+    by_fault WriteFault passed = passes-join a b c u v w one passed
+    by_fault NoMemory passed = passes-join a b c u v w one passed

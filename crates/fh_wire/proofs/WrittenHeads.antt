@@ -24,10 +24,10 @@ pub request_lines : (head name port size body : List ℕ)
 request_lines head name port size body is =
     ap (λ (t : List ℕ). t ++ body) is
     ∙ spread (codes "POST /") name (codes " HTTP/1.0" ++ (crlf ++ codes "Host: 127.0.0.1:")) port
-      (crlf ++ (codes "Content-Type: application/json" ++ (crlf ++ codes "Content-Length: "))) size
-      (crlf ++ (codes "Connection: close" ++ (crlf ++ crlf))) body
+    (crlf ++ (codes "Content-Type: application/json" ++ (crlf ++ codes "Content-Length: "))) size
+    (crlf ++ (codes "Connection: close" ++ (crlf ++ crlf))) body
     ∙ sym (regrouped (codes "POST /") name (codes " HTTP/1.0") crlf (codes "Host: 127.0.0.1:") port
-      (codes "Content-Type: application/json") (codes "Content-Length: ") size (codes "Connection: close") body)
+    (codes "Content-Type: application/json") (codes "Content-Length: ") size (codes "Connection: close") body)
 
 regrouped_status : (a n b p e t l s c body : List ℕ)
     → (a ++ n ++ b ++ p ++ e) ++ ((t ++ e) ++ (l ++ s ++ e) ++ (c ++ e) ++ ([] ++ e)) ++ body
@@ -42,7 +42,7 @@ pub response_lines : (head status phrase size body : List ℕ)
 response_lines head status phrase size body is =
     ap (λ (t : List ℕ). t ++ body) is
     ∙ spread (codes "HTTP/1.1 ") status (codes " ") phrase
-      (crlf ++ (codes "Content-Type: application/json" ++ (crlf ++ codes "Content-Length: "))) size
-      (crlf ++ (codes "Connection: close" ++ (crlf ++ crlf))) body
+    (crlf ++ (codes "Content-Type: application/json" ++ (crlf ++ codes "Content-Length: "))) size
+    (crlf ++ (codes "Connection: close" ++ (crlf ++ crlf))) body
     ∙ sym (regrouped_status (codes "HTTP/1.1 ") status (codes " ") phrase crlf
-      (codes "Content-Type: application/json") (codes "Content-Length: ") size (codes "Connection: close") body)
+    (codes "Content-Type: application/json") (codes "Content-Length: ") size (codes "Connection: close") body)

@@ -3,7 +3,7 @@ use Rattle.std.specs.Prelude.{ℕ, ◌==◌, Bool, true, false, not, ◌||◌, i
 use Rattle.std.specs.List.{fold, list_all}
 use Rattle.std.specs.Char.{is_ascii}
 use Rattle.std.specs.Str.{str_eq_ignore_ascii_case}
-use Rattle.fh_wire.specs.Numbers.{number_of}
+use Rattle.fh_base.specs.Numbers.{number_of}
 use Rattle.fh_wire.specs.declared.fault.WireFault.{WireFault}
 use Rattle.fh_wire.specs.declared.fault.WireFault.TheVariants.{BadHead, BadLength, Chunked, Coded}
 use Rattle.fh_wire.specs.declared.fields.FieldKind.{FieldKind}

@@ -1,4 +1,3 @@
-pub mod Numbers
 pub mod Scan
 pub mod Fronts
 pub mod Fields

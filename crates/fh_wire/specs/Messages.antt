@@ -2,6 +2,7 @@
 use Rattle.std.specs.Prelude.{◌≡◌, ℕ, ◌≤◌, List, length, take, map, Result, Ok, Err}
 use Rattle.httparse.specs.Grammar.{RequestHead, print_request, ReadsRequest, ResponseHead, print_response, ReadsResponse, status_code}
 use Rattle.httparse.specs.Spans.{name_and_value}
+use Rattle.fh_base.specs.Limits.{longest_message}
 use Rattle.fh_wire.specs.declared.fault.WireFault.{WireFault}
 use Rattle.fh_wire.specs.declared.fault.WireFault.TheVariants.{BadHead}
 use Rattle.fh_wire.specs.declared.request.HttpIn.{HttpIn}
@@ -27,7 +28,7 @@ request_of h rest =
 pub record BeginsRequest (bytes : List ℕ) (h : RequestHead) (rest : List ℕ) : Type 0 where
   pub taken : IsTakenRequest h
   pub reads : ReadsRequest bytes h rest
-  pub within : length (print_request h) ≤ 2097152
+  pub within : length (print_request h) ≤ longest_message
 
 -- the one answer to a request's bytes
 pub data RequestIs (bytes : List ℕ) (r : Result HttpIn WireFault) : Type 0 where
@@ -48,7 +49,7 @@ response_of h rest =
 pub record BeginsResponse (bytes : List ℕ) (h : ResponseHead) (rest : List ℕ) : Type 0 where
   pub taken : IsTakenResponse h
   pub reads : ReadsResponse bytes h rest
-  pub within : length (print_response h) ≤ 2097152
+  pub within : length (print_response h) ≤ longest_message
 
 -- the one answer to a response's bytes
 pub data ResponseIs (bytes : List ℕ) (r : Result HttpBack WireFault) : Type 0 where

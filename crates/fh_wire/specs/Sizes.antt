@@ -1,13 +1,10 @@
 -- How many of the bytes behind a head are its body.
 use Rattle.std.specs.Prelude.{ℕ, ◌+◌, nat_lt, if◌then◌else◌, List, length, take, unwrap_or, Result, Ok, Err}
+use Rattle.fh_base.specs.Limits.{longest_message}
 use Rattle.fh_wire.specs.declared.fault.WireFault.{WireFault}
 use Rattle.fh_wire.specs.declared.fault.WireFault.TheVariants.{TooLong, Cut}
 use Rattle.fh_wire.specs.declared.fields.Framing.{Framing}
 use Rattle.fh_wire.specs.Fields.{stated}
-
--- the most bytes of a head and its body together
-abbrev pub most : ℕ
-most = 2097152
 
 -- the rest is read only where this was
 infixl 10 ◌>>=◌
@@ -17,11 +14,11 @@ abbrev pub ◌>>=◌ : {A B : Type 0} → Result A WireFault → (A → Result B
 
 -- the bytes, of which there are so many, end before the head does
 abbrev pub unfinished : ℕ → WireFault
-unfinished got = if nat_lt most got then TooLong else Cut got 0
+unfinished got = if nat_lt longest_message got then TooLong else Cut got 0
 
 -- a body of so many bytes has room behind a head of this length
 abbrev pub fitting : ℕ → ℕ → Result ℕ WireFault
-fitting head needed = if nat_lt most (head + needed) then Err TooLong else Ok needed
+fitting head needed = if nat_lt longest_message (head + needed) then Err TooLong else Ok needed
 
 -- how many bytes are needed behind a request's head: those that are stated, or none
 abbrev pub request_needs : Framing → ℕ → Result ℕ WireFault
@@ -31,7 +28,7 @@ request_needs fields head = stated fields >>= λ given. fitting head (unwrap_or 
 abbrev pub response_needs : Framing → ℕ → ℕ → Result ℕ WireFault
 response_needs fields head got =
     stated fields >>= λ given.
-    if nat_lt most (head + got) then Err TooLong else fitting head (unwrap_or given got)
+    if nat_lt longest_message (head + got) then Err TooLong else fitting head (unwrap_or given got)
 
 -- the body: so many of the bytes behind a head
 abbrev pub body_of : ℕ → List ℕ → Result (List ℕ) WireFault

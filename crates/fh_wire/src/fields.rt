@@ -7,7 +7,7 @@ ghost use Rattle.httparse.specs.Spans.{IsHeaderWithin, header_bytes};
 ghost use Rattle.fh_wire.specs.Fields.{plain, noted, framing, stated, kind_of, agree};
 
 use crate::fault::WireFault;
-use crate::number::read_number;
+use fh_base::read_number;
 use httparse::spans::HeaderSpan;
 
 /// What a field is to the body.

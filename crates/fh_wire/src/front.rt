@@ -5,13 +5,10 @@ ghost use Rattle.fh_wire.specs.Fronts.{FindsResponseFront, FindsRequestFront};
 ghost use Rattle.fh_wire.specs.Messages.{front};
 ghost use Rattle.fh_wire.specs.Scan.{fresh, stepped};
 
-use crate::MOST;
 use crate::scan::{MOST_LINES, Scan};
+use fh_base::LONGEST_MESSAGE;
 use httparse::Status;
 use httparse::spans::{HeaderSpan, RequestSpans, ResponseSpans, parse_request, parse_response};
-
-/// The most fields of a head.
-pub(crate) const MOST_FIELDS: usize = 64;
 
 /// What bytes are to a reader of heads.
 #[derive(Clone, Copy, Debug, PartialEq, Eq)]
@@ -28,7 +25,7 @@ pub(crate) enum Front<T> {
 pub(crate) fn front_of(bytes: &[u8]) -> &[u8]
     ensures { result.now ≡ front bytes.now }
 {
-    bytes.split_at(MOST.min(bytes.len())).0
+    bytes.split_at(LONGEST_MESSAGE.min(bytes.len())).0
 }
 
 /// What these bytes are to a reader of responses.

@@ -6,12 +6,11 @@ ghost use Rattle.fh_wire.specs.Fronts.{FindsRequestFront};
 ghost use Rattle.fh_wire.specs.Messages.{front};
 ghost use Rattle.fh_wire.specs.Reading.{Brings, ReadsRequestFrom};
 
-use crate::MOST;
 use crate::fault::WireFault;
 use crate::front::{Front, find_request, front_of};
 use crate::scan::Scan;
 use crate::size::unfinished;
-use fh_base::Source;
+use fh_base::{LONGEST_MESSAGE, Source};
 use httparse::spans::{HeaderSpan, RequestSpans};
 
 /// Reads until a whole head has come. It looks for a head once the scan has seen its last line, at the end
@@ -41,7 +40,7 @@ pub(crate) fn read_head<S: Source>(
     let mut next_look = 0;
     'pieces: loop {
         let before = bytes.len();
-        let came = match read_piece(source, piece, bytes, MOST + 1) {
+        let came = match read_piece(source, piece, bytes, LONGEST_MESSAGE + 1) {
             Ok(came) => came,
             Err(fault) => return Err(fault),
         };
@@ -67,7 +66,7 @@ pub(crate) fn read_head<S: Source>(
 fn is_last(came: usize, got: usize) -> bool
     ensures { result ≡ (came == 0 || nat_lt 2097152 got) }
 {
-    came == 0 || got > MOST
+    came == 0 || got > LONGEST_MESSAGE
 }
 
 /// Reads a piece behind the bytes that have come, so that there are at most so many.

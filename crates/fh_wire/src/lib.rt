@@ -13,28 +13,20 @@
 //! `Fields` and `Sizes` (what its fields say of the body), `Reading` and `Causes`.
 #![tactic(auto)]
 
-mod bytes;
 mod fault;
 mod fields;
 mod front;
 mod head;
-mod number;
 mod request;
 mod response;
 mod scan;
 mod size;
-mod text;
 mod written;
 
-pub use bytes::Bytes;
 pub use fault::WireFault;
 pub use request::{HttpIn, read_request};
 pub use response::{HttpBack, read_response};
-pub use text::Text;
 pub use written::{request_bytes, write_response};
-
-/// The most bytes of a head and its body together.
-pub(crate) const MOST: usize = 2_097_152;
 
 #[cfg(test)]
 mod tests;

@@ -9,14 +9,12 @@ ghost use Rattle.fh_wire.specs.Messages.{front, request_of};
 ghost use Rattle.fh_wire.specs.Reading.{AnswersBy, ReadsRequestFrom};
 ghost use Rattle.fh_wire.specs.Sizes.{body_of};
 
-use crate::bytes::Bytes;
 use crate::fault::WireFault;
 use crate::fields::Framing;
-use crate::front::{Front, MOST_FIELDS, front_of};
+use crate::front::{Front, front_of};
 use crate::head::{read_head, read_piece};
 use crate::size::request_needs;
-use crate::text::Text;
-use fh_base::Source;
+use fh_base::{Bytes, MOST_FIELDS, Source, Text};
 use http::Method;
 use httparse::spans::{EMPTY_HEADER_SPAN, HeaderSpan, RequestSpans};
 use std::alloc::Global;
@@ -70,8 +68,8 @@ fn read_behind<S: Source>(
     requires found { FindsRequestFront (front bytes.now) fields.now (Front.Whole spans) }
     ensures answer { (h : RequestHead) → IsRequestAt (front bytes.now) fields.now spans h
         → AnswersBy (S.left source.old) (S.left source.new) result
-            (λ rest. request_of h (drop spans.len bytes.now ++ rest))
-            (λ m. length m.body - length (drop spans.len bytes.now)) }
+        (λ rest. request_of h (drop spans.len bytes.now ++ rest))
+        (λ m. length m.body - length (drop spans.len bytes.now)) }
     ensures cause { HasReadCause (S.read_faults source.old) (S.read_faults source.new)
         (S.reads_surely source.old) (S.reads_surely source.new) result }
     ensures beside { S.beside_reading source.new ≡ S.beside_reading source.old }
@@ -101,7 +99,7 @@ fn request(
     requires { FindsRequestFront head.now fields.now (Front.Whole spans) }
     ensures { (h : RequestHead) → IsRequestAt head.now fields.now spans h
         → UnlessNoMemory result
-            (result ≡ Ok (record { method = h.method; target = h.target; body = body })) }
+        (result ≡ Ok (record { method = h.method; target = h.target; body = body })) }
 {
     let Ok(target) = str::from_utf8(spans.path.of(head)) else {
         return Err(WireFault::BadHead);

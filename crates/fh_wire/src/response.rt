@@ -6,11 +6,11 @@ ghost use Rattle.fh_wire.specs.Causes.{UnlessNoMemory};
 ghost use Rattle.fh_wire.specs.Messages.{ResponseIs, front, response_of};
 ghost use Rattle.fh_wire.specs.Sizes.{body_of};
 
-use crate::bytes::Bytes;
 use crate::fault::WireFault;
 use crate::fields::Framing;
-use crate::front::{Front, MOST_FIELDS, find_response, front_of};
+use crate::front::{Front, find_response, front_of};
 use crate::size::{response_needs, unfinished};
+use fh_base::{Bytes, MOST_FIELDS};
 use httparse::spans::{EMPTY_HEADER_SPAN, HeaderSpan, ResponseSpans};
 use std::alloc::Global;
 

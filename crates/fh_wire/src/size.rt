@@ -2,15 +2,15 @@
 ghost use Rattle.std.specs.Prelude.{◌≡◌, ◌+◌, ◌≤◌, ◌<◌, ◌^◌, IfOk};
 ghost use Rattle.fh_wire.specs.Sizes.{unfinished, fitting, request_needs, response_needs};
 
-use crate::MOST;
 use crate::fault::WireFault;
 use crate::fields::Framing;
+use fh_base::LONGEST_MESSAGE;
 
 /// The fault of bytes that end before their head does.
 pub(crate) fn unfinished(got: usize) -> WireFault
     ensures { result ≡ unfinished got }
 {
-    if got > MOST {
+    if got > LONGEST_MESSAGE {
         return WireFault::TooLong;
     }
     WireFault::Cut {
@@ -37,7 +37,7 @@ pub(crate) fn response_needs(framing: Framing, head: usize, got: usize) -> Resul
     ensures within { IfOk result (λ needed. head + needed ≤ 2097152) }
 {
     let given = framing.stated()?;
-    if head + got > MOST {
+    if head + got > LONGEST_MESSAGE {
         return Err(WireFault::TooLong);
     }
     fitting(head, given.unwrap_or(got as u64))
@@ -49,7 +49,7 @@ fn fitting(head: usize, needed: u64) -> Result<usize, WireFault>
     ensures size { result ≡ fitting head needed }
     ensures within { IfOk result (λ size. head + size ≤ 2097152) }
 {
-    if needed > (MOST - head) as u64 {
+    if needed > (LONGEST_MESSAGE - head) as u64 {
         return Err(WireFault::TooLong);
     }
     Ok(needed as usize)

@@ -10,16 +10,13 @@ use std::alloc::Global;
 
 /// The request that posts this body to the function of this name, of the worker at this port of the
 /// loopback address. It is of HTTP/1.0, so that the worker answers without chunks and closes.
-pub fn request_bytes(
-    alloc: Global,
-    name: &str,
-    port: u16,
-    body: &[u8],
-) -> Result<Vec<u8>, NoMemory>
+pub fn request_bytes(alloc: Global, name: &str, port: u16, body: &[u8]) -> Result<Vec<u8>, NoMemory>
     ensures { IfOk result (λ bytes. bytes.items ≡ request_text name.now port body.now) }
 {
     let size = body.len();
-    let head = format!(in alloc; "POST /{name} HTTP/1.0\r\nHost: 127.0.0.1:{port}\r\nContent-Type: application/json\r\nContent-Length: {size}\r\nConnection: close\r\n\r\n")?;
+    let head = format!(in alloc;
+        "POST /{name} HTTP/1.0\r\nHost: 127.0.0.1:{port}\r\nContent-Type: application/json\r\nContent-Length: {size}\r\nConnection: close\r\n\r\n"
+    )?;
     let mut bytes = head.into_bytes();
     bytes.extend_from_slice(body)?;
     Ok(bytes)
@@ -54,7 +51,9 @@ fn response_bytes(alloc: Global, status: u16, body: &[u8]) -> Result<Vec<u8>, No
 {
     let phrase = phrase_of(status);
     let size = body.len();
-    let head = format!(in alloc; "HTTP/1.1 {status} {phrase}\r\nContent-Type: application/json\r\nContent-Length: {size}\r\nConnection: close\r\n\r\n")?;
+    let head = format!(in alloc;
+        "HTTP/1.1 {status} {phrase}\r\nContent-Type: application/json\r\nContent-Length: {size}\r\nConnection: close\r\n\r\n"
+    )?;
     let mut bytes = head.into_bytes();
     bytes.extend_from_slice(body)?;
     Ok(bytes)

@@ -49,7 +49,7 @@ pieces-init g c = record {
   scanned = ap (fold stepped fresh) (sym c.requires.empty);
   lines = omega arith;
   headless = subst HasNoRequest (sym c.requires.empty) (headless [] (λ ended. absurd cc));
-  passed = record { count = refl; sure = λ was. was; };
+  passed = record { count = refl; sure = λ was. was };
   beside = refl;
   most = omega arith;
 }
