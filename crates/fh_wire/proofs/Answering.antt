@@ -157,7 +157,7 @@ pub whole_request_at : (was mid now : Option (List ℕ)) (bytes slice : List ℕ
     (h : RequestHead) (q : Result HttpIn WireFault) → slice ≡ bytes → Consumes was mid bytes → IsRequestAt (front bytes) fields r h
     → IsTakenRequest h → IsRequestWithin (front bytes) fields r → length bytes < r.len + 16384
     → (IsRequestAt (front slice) fields r h
-        → AnswersBy mid now q (λ rest. request_of h (drop r.len slice ++ rest)) (λ m. length m.body - length (drop r.len slice)))
+    → AnswersBy mid now q (λ rest. request_of h (drop r.len slice ++ rest)) (λ m. length m.body - length (drop r.len slice)))
     → UnlessUnread q (ReadsRequestFrom was now q)
 whole_request_at was mid now bytes slice fields r h q same read found taken within soon behind =
     whole_request was mid now bytes fields r h q read found taken within soon

@@ -6,13 +6,13 @@ use Rattle.std.proofs.lemmas.List.Elements.{All-append, All-weaker, All-cons, Al
 use Rattle.std.proofs.lemmas.List.Sums.{fold-append}
 use Rattle.std.proofs.lemmas.Bool.Decides.{nat_tests}
 use Rattle.std.proofs.lemmas.Str.{IsUtf8-from_ascii}
-use Rattle.std.proofs.lemmas.Str.Ascii.{IsAscii-from_all}
+use Rattle.std.proofs.lemmas.Str.Ascii.{IsAscii-from_all, All-from_ascii}
 use Rattle.std.specs.List.{fold}
 use Rattle.std.specs.Char.{is_ascii_digit}
 use Rattle.std.specs.Str.{IsAscii}
 use Rattle.httparse.specs.declared.Error.{Error}
 use Rattle.httparse.specs.declared.Error.TheVariants.{HeaderName, HeaderValue, NewLine, Status, Token, TooManyHeaders, Version}
-use Rattle.httparse.specs.Grammar.{LineEnd, lf, print_end, print_blank, print_version, print_reason, print_section, print_field, Field, IsField, is_token_byte, is_uri_byte, is_value_byte, RequestHead, IsRequestHead, ReadsRequest, NeverHasRequest, MayBecomeRequest, EndsInTarget, ResponseHead, IsResponseHead, ReadsResponse, NeverHasResponse, MayBecomeResponse, reason_phrase}
+use Rattle.httparse.specs.Grammar.{LineEnd, crlf, lf, print_end, print_blank, print_version, print_reason, print_section, print_field, Field, IsField, is_token_byte, is_uri_byte, is_value_byte, RequestHead, IsRequestHead, ReadsRequest, NeverHasRequest, MayBecomeRequest, EndsInTarget, ResponseHead, IsResponseHead, ReadsResponse, NeverHasResponse, MayBecomeResponse, reason_phrase}
 use Rattle.httparse.specs.Pieces.{Stops, is_newline}
 use Rattle.httparse.specs.Spans.{AreFieldsAt, header_bytes, name_and_value, RequestExceeds, ResponseExceeds}
 use Rattle.httparse.specs.declared.spans.HeaderSpan.{HeaderSpan}
@@ -24,7 +24,7 @@ use Rattle.fh_wire.specs.Scan.{fresh, stepped, head_lines, is_wide}
 use Rattle.fh_wire.specs.Fronts.{IsRefusedResponse, IsRefusedRequest}
 use Rattle.fh_wire.specs.Fronts.IsRefusedResponse.{long, never}
 use Rattle.fh_wire.specs.Fronts.IsRefusedRequest.{long as long_request, wide as wide_request, never as never_request}
-use Rattle.fh_wire.proofs.HeadLines.{NoFeed, Plain, Passes, at, LeadsTo, step_inside, step_fresh, exceeding_lines, head_lines-append, whole_lines, whole_place, blanks_from_fresh, line_from_fresh, token_plain, value_plain, uri_plain, either_false}
+use Rattle.fh_wire.proofs.HeadLines.{step_lines, NoFeed, Plain, Passes, at, LeadsTo, step_inside, step_fresh, exceeding_lines, head_lines-append, whole_lines, whole_place, blanks_from_fresh, line_from_fresh, token_plain, value_plain, uri_plain, either_false}
 
 -- an error is about the room for fields, or it isn't
 pub either_fault : {A : Type 0} {P Q : Type 0} (e : Error) → (e ≢ TooManyHeaders → P)
@@ -250,3 +250,61 @@ pub few_fields : (bytes : List ℕ) (headers : List HeaderSpan) (count : ℕ) (f
     → length headers ≡ 64 → length fields ≤ 64
 few_fields bytes headers count fields are sized =
     omega (arith, ap length are, length-map (take count headers) (header_bytes bytes), length-map fields name_and_value, length-take count headers, sized)
+
+-- ---- the first line of a whole head whose target is ASCII text
+
+off : (w x y : Bool) → w ≡ false → y ≡ false → (w || (x && y)) ≡ false
+off w true y one two = rw (one, two) refl
+off w false y one two = rw one refl
+
+past : (w x y : Bool) → w ≡ false → x ≡ false → (w || (x && y)) ≡ false
+past w x y one two = rw (one, two) refl
+
+narrow_low : (scan : Scan) (text : List ℕ) → scan.wide ≡ false → All Low text → (fold stepped scan text).wide ≡ false
+narrow_low scan [] is all = is
+narrow_low scan (b ∷ text) is all =
+    let lower : b < 128 = All-head Low b text all in
+    narrow_low (stepped scan b) text (off scan.wide (scan.lines == 0) (nat_le 128 b) is (grind (arith, nat_tests))) (All-tail Low b text all)
+
+narrow_past : (scan : Scan) (more : List ℕ) → scan.wide ≡ false → 1 ≤ scan.lines → (fold stepped scan more).wide ≡ false
+narrow_past scan [] is lines = is
+narrow_past scan (b ∷ more) is lines =
+    narrow_past (stepped scan b) more (past scan.wide (scan.lines == 0) (nat_le 128 b) is (grind (arith, nat_tests)))
+    (omega (arith, lines, step_lines scan b))
+
+end_low : (e : LineEnd) → All Low (print_end e)
+end_low lf = All-from_recursion Low (print_end lf) (omega arith, tt)
+end_low crlf = All-from_recursion Low (print_end crlf) (omega arith, (omega arith, tt))
+
+blank_low : (ends : List LineEnd) → All Low (print_blank ends)
+blank_low [] = All-nil Low
+blank_low (e ∷ ends) = All-append Low (print_end e) (print_blank ends) (end_low e) (blank_low ends)
+
+token_low : (b : ℕ) → is_token_byte b ≡ true → b < 128
+unfolding is_token_byte
+token_low b token = grind (arith, nat_tests)
+
+version_low : (minor : ℕ) → minor ≤ 1 → All Low (print_version minor)
+version_low minor few =
+    All-from_recursion Low (print_version minor) (omega arith, (omega arith, (omega arith, (omega arith, (omega arith, (omega arith, (omega arith, (omega arith, tt))))))))
+
+line_low : (h : RequestHead) → IsRequestHead h → All Low h.target → All Low (request_line h)
+unfolding request_line
+line_low h is target =
+    All-append Low h.method (32 ∷ (h.target ++ 32 ∷ print_version h.minor)) (All-weaker (Passes is_token_byte) Low token_low h.method is.method.1)
+    (All-cons Low 32 (h.target ++ 32 ∷ print_version h.minor) (omega arith) (All-append Low h.target (32 ∷ print_version h.minor) target
+    (All-cons Low 32 (print_version h.minor) (omega arith) (version_low h.minor is.minor))))
+
+pub request_whole_narrow : (bytes : List ℕ) (h : RequestHead) (rest : List ℕ) → ReadsRequest bytes h rest → IsAscii h.target
+    → is_wide bytes ≡ false
+unfolding request_line
+request_whole_narrow bytes h rest reads ascii =
+    let start = print_blank h.blank ++ (request_line h ++ print_end h.line_end) in
+    let more = (flat_map print_field h.fields ++ print_end h.last) ++ rest in
+    let split : bytes ≡ start ++ more = reads.1 ∙ print_request-append h rest ∙ simp (append_assoc, cons-append) in
+    let begun = request_started h reads.0 in
+    let narrow = narrow_low fresh start refl (All-append Low (print_blank h.blank) (request_line h ++ print_end h.line_end) (blank_low h.blank)
+    (All-append Low (request_line h) (print_end h.line_end) (line_low h reads.0 (All-from_ascii h.target ascii)) (end_low h.line_end))) in
+    let lines : (fold stepped fresh start).lines ≡ 1 = ap (λ (s : Scan). s.lines) begun.1 in
+    ap is_wide split ∙ ap (λ (s : Scan). s.wide) (fold-append stepped fresh start more)
+    ∙ narrow_past (fold stepped fresh start) more narrow (omega (arith, lines))

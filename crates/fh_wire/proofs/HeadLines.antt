@@ -136,7 +136,7 @@ ended_by scan b n w is = by_place scan.place scan.lines scan.wide is
     by_place Returned m v is = ap (λ (s : Scan). s.lines) is
     by_place Ended m v is = ap (λ (s : Scan). s.lines) is
 
-step_lines : (scan : Scan) (b : ℕ) → scan.lines ≤ (stepped scan b).lines
+pub step_lines : (scan : Scan) (b : ℕ) → scan.lines ≤ (stepped scan b).lines
 step_lines scan b = by_test (ends_line scan.place b)
   where
     by_test : (t : Bool) → scan.lines ≤ (if t then scan.lines + 1 else scan.lines)

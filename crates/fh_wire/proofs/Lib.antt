@@ -7,3 +7,4 @@ pub mod Sources
 pub mod Answering
 pub mod Tokens
 pub mod Phrases
+pub mod OneAnswer

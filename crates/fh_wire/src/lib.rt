@@ -17,6 +17,7 @@ mod fault;
 mod fields;
 mod front;
 mod head;
+pub mod laws;
 mod request;
 mod response;
 mod scan;
