@@ -30,6 +30,7 @@ use fh_wire::{read_request, read_response};
 use std::time::Instant;
 
 // Bytes in memory that come in pieces of at most so many. It tells nothing of them.
+#[derive(Drop)]
 struct Pieces<'a> {
     left: &'a [u8],
     size: usize,

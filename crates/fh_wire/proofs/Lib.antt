@@ -8,3 +8,4 @@ pub mod Answering
 pub mod Tokens
 pub mod Phrases
 pub mod OneAnswer
+pub mod RoundTrip

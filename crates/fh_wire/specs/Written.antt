@@ -1,10 +1,11 @@
 -- The messages that the host writes (RFC 9112, with CR LF behind each line of a head).
-use Rattle.std.specs.Prelude.{ℕ, ◌<◌, take, Option, Result, Ok, Err, ◌&&◌, nat_le, nat_lt, if◌then◌else◌, List, [], ◌∷◌, ◌++◌, length, codes, unwrap_or}
+use Rattle.std.specs.Prelude.{ℕ, ◌<◌, ◌≤◌, All, take, Option, Result, Ok, Err, ◌&&◌, nat_le, nat_lt, if◌then◌else◌, List, [], ◌∷◌, ◌++◌, length, codes, unwrap_or}
 use Rattle.std.specs.Fmt.{decimal}
 use Rattle.std.specs.Io.KnownBytes.{Appends, Keeps}
 use Rattle.http.specs.StatusCode.{reason_phrase}
 use Rattle.fh_wire.specs.declared.fault.WireFault.{WireFault}
 use Rattle.fh_wire.specs.declared.fault.WireFault.TheVariants.{WriteFault, NoMemory}
+use Rattle.fh_wire.specs.Messages.{RequestIs, ResponseIs}
 
 abbrev pub line : List ℕ → List ℕ
 line text = text ++ 13 ∷ 10 ∷ []
@@ -50,3 +51,17 @@ WritesUnlessFault was now text fault = ⊥
 abbrev pub WritesResponse : Option (List ℕ) → Option (List ℕ) → Result (Unit {0}) WireFault → List ℕ → Type 0
 WritesResponse was now (Ok done) text = Appends was now text
 WritesResponse was now (Err fault) text = WritesUnlessFault was now text fault
+
+-- the bytes stand in a request's target as they are: visible ASCII, without blanks
+abbrev pub IsPath : List ℕ → Type 0
+IsPath bytes = All (λ b. (33 ≤ b) × (b ≤ 126)) bytes
+
+-- what is posted is read as this request
+abbrev pub PostedIsRead : List ℕ → ℕ → List ℕ → Type 0
+PostedIsRead name port body =
+    RequestIs (request_text name port body)
+    (Ok (record { method = codes "POST"; target = codes "/" ++ name; body = body }))
+
+-- what is answered is read as this response
+abbrev pub AnsweredIsRead : ℕ → List ℕ → Type 0
+AnsweredIsRead status body = ResponseIs (response_text status body) (Ok (record { status = status; body = body }))
