@@ -1,12 +1,12 @@
 -- An answer by a head's spans is the answer by the head.
-use Rattle.std.proofs.Common.{◌≡◌, ◌≤◌, ◌<◌, ℕ, ◌+◌, ◌-◌, refl, List, [], ◌++◌, length, length-take, length-append, take, drop, map, Option, Result, Ok, Err, sym, ap, subst, ◌∙◌, append_assoc, arith, inl, inr}
-use Rattle.std.specs.Prelude.{◌⊎◌, IfOk}
+use Rattle.std.proofs.Common.{◌≡◌, ◌≤◌, ◌<◌, ℕ, ◌+◌, ◌-◌, refl, List, [], ◌++◌, length, length-append, drop, map, Option, Result, Ok, Err, sym, ap, subst, ◌∙◌, append_assoc, arith, inl, inr}
+use Rattle.std.specs.Prelude.{IfOk}
 use Rattle.std.specs.Io.KnownBytes.{Consumes}
 use Rattle.std.proofs.lemmas.Bool.{cases_lt}
 use Rattle.httparse.specs.declared.spans.HeaderSpan.{HeaderSpan}
 use Rattle.httparse.specs.declared.spans.RequestSpans.{RequestSpans}
 use Rattle.httparse.specs.declared.spans.ResponseSpans.{ResponseSpans}
-use Rattle.httparse.specs.Grammar.{Field, RequestHead, print_request, ReadsRequest, ResponseHead, print_response, status_code}
+use Rattle.httparse.specs.Grammar.{Field, RequestHead, print_request, ResponseHead, print_response}
 use Rattle.httparse.specs.Spans.{IsRequestAt, IsRequestWithin, IsResponseAt, IsResponseWithin, header_bytes, name_and_value}
 use Rattle.httparse.proofs.GrammarLemmas.{request_unique}
 use Rattle.fh_wire.specs.declared.fault.WireFault.{WireFault}
@@ -17,11 +17,11 @@ use Rattle.fh_wire.specs.declared.response.HttpBack.{HttpBack}
 use Rattle.fh_wire.specs.Causes.{UnlessNoMemory, UnlessUnread}
 use Rattle.fh_wire.specs.Fields.{framing}
 use Rattle.fh_wire.specs.Fronts.{IsTakenRequest, IsTakenResponse}
-use Rattle.fh_wire.specs.Messages.{front, request_of, RequestIs, response_of, ResponseIs}
+use Rattle.fh_wire.specs.Messages.{front, request_of, response_of, ResponseIs}
 use Rattle.fh_wire.specs.Messages.RequestIs.{whole}
 use Rattle.fh_wire.specs.Messages.ResponseIs.{whole as whole_response}
-use Rattle.fh_wire.specs.Reading.{known, ReadsBy, AnswersBy, ReadsRequestFrom, EndsSoon}
-use Rattle.fh_wire.specs.Sizes.{◌>>=◌, request_needs, response_needs, body_of}
+use Rattle.fh_wire.specs.Reading.{known, AnswersBy, ReadsRequestFrom, EndsSoon}
+use Rattle.fh_wire.specs.Sizes.{◌>>=◌, request_needs, body_of}
 use Rattle.fh_wire.proofs.FrontBytes.{continued, front_few}
 use Rattle.fh_wire.proofs.Sources.{consumes-none, consumes-append}
 

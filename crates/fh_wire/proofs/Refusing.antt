@@ -1,16 +1,14 @@
 -- What is refused stays refused, and a whole head is seen by the scan.
-use Rattle.std.proofs.Common.{◌≡◌, ℕ, ◌+◌, ◌<◌, ◌≤◌, ◌==◌, nat_le, Bool, true, false, ◌||◌, ◌&&◌, List, [], ◌∷◌, ◌++◌, length, refl, sym, ap, ◌∙◌, subst, arith, append_assoc, flat_map}
+use Rattle.std.proofs.Common.{◌≡◌, ℕ, ◌==◌, nat_le, Bool, true, ◌||◌, ◌&&◌, List, [], ◌∷◌, ◌++◌, sym, ap, ◌∙◌, arith, append_assoc}
 use Rattle.std.specs.List.{fold}
-use Rattle.std.specs.Prelude.{All}
 use Rattle.std.proofs.lemmas.List.Sums.{fold-append}
-use Rattle.httparse.specs.Grammar.{LineEnd, Field, IsField, print_end, print_field, RequestHead, print_request, ReadsRequest, HasNoRequest}
-use Rattle.fh_wire.specs.declared.scan.Place.{Place}
-use Rattle.fh_wire.specs.declared.scan.Place.TheVariants.{Before, Inside, Start, Returned, Ended}
+use Rattle.httparse.specs.Grammar.{HasNoRequest}
+use Rattle.fh_wire.specs.declared.scan.Place.TheVariants.{Ended}
 use Rattle.fh_wire.specs.declared.scan.Scan.{Scan}
 use Rattle.fh_wire.specs.Scan.{fresh, stepped}
 use Rattle.fh_wire.specs.Fronts.{IsRefusedRequest}
 use Rattle.fh_wire.specs.Fronts.IsRefusedRequest.{long, wide, never}
-use Rattle.fh_wire.proofs.HeadLines.{head_lines-append, whole_place}
+use Rattle.fh_wire.proofs.HeadLines.{head_lines-append}
 use Rattle.fh_wire.proofs.Fronts.{request_whole_place}
 
 wide_stays : (scan : Scan) (more : List ℕ) → scan.wide ≡ true → (fold stepped scan more).wide ≡ true

@@ -1,10 +1,9 @@
 -- What is written is read: its head is a head of the grammar, and its length is that of the body.
-use Rattle.std.proofs.Common.{◌≡◌, ℕ, zero, suc, ◌+◌, ◌*◌, ◌/◌, ◌%◌, ◌^◌, ◌<◌, ◌≤◌, ◌==◌, nat_lt, nat_le, Bool, true, false, not, ◌&&◌, ◌||◌, IsTrue, List, [], ◌∷◌, ◌++◌, length, take, map, reverse, Option, Some, None, Result, Ok, refl, sym, ap, ◌∙◌, subst, arith, rules, append_assoc, append-nil, length-append, lit<}
+use Rattle.std.proofs.Common.{◌≡◌, ℕ, zero, suc, ◌+◌, ◌/◌, ◌%◌, ◌^◌, ◌<◌, ◌≤◌, nat_lt, Bool, true, false, ◌&&◌, IsTrue, List, [], ◌∷◌, ◌++◌, length, map, reverse, Some, Result, Ok, refl, sym, ap, ◌∙◌, arith, rules, append_assoc, append-nil, length-append}
 use Rattle.std.specs.Prelude.{All, codes}
 use Rattle.std.specs.Char.{is_ascii, is_ascii_digit}
 use Rattle.std.specs.Fmt.{decimal}
 use Rattle.std.specs.List.{list_all}
-use Rattle.std.specs.Str.{IsAscii, IsUtf8}
 use Rattle.std.specs.Str.Parse.{digits_value}
 use Rattle.std.proofs.lemmas.Bool.Decides.{nat_tests, Decides-below_and}
 use Rattle.std.proofs.lemmas.Fmt.{digits_decimal, digits_value-decimal, decimal_nonempty, length-decimal-le, decimal_step, decimal_digit}
@@ -13,7 +12,7 @@ use Rattle.std.proofs.lemmas.List.Elements.{All-append, All-weaker, All-cons, Al
 use Rattle.std.proofs.lemmas.Str.{IsUtf8-from_ascii}
 use Rattle.std.proofs.lemmas.Str.Ascii.{IsAscii-from_all}
 use Rattle.std.proofs.lemmas.Str.Parse.{IsNumeralModel, numerals_by_value}
-use Rattle.httparse.specs.Grammar.{LineEnd, crlf, print_end, print_version, print_section, Field, IsField, is_token_byte, is_uri_byte, is_value_byte, AllPass, is_ows, skip_ows, trim_ows, RequestHead, IsRequestHead, print_request, ResponseHead, IsResponseHead, print_response}
+use Rattle.httparse.specs.Grammar.{crlf, print_end, print_version, Field, IsField, is_token_byte, is_uri_byte, is_value_byte, AllPass, is_ows, skip_ows, trim_ows, RequestHead, IsRequestHead, print_request, ResponseHead, IsResponseHead, print_response}
 use Rattle.httparse.specs.Spans.{name_and_value}
 use Rattle.httparse.proofs.GrammarLemmas.{print_request-append, print_response-append, cons-append}
 use Rattle.httparse.proofs.TrimLemmas.{trim_ows_space, AllPass-reverse}
@@ -22,7 +21,6 @@ use Rattle.fh_base.specs.Numbers.{is_number, number_of}
 use Rattle.fh_wire.specs.declared.fault.WireFault.{WireFault}
 use Rattle.fh_wire.specs.declared.fields.Framing.{Framing}
 use Rattle.fh_wire.specs.Fields.{kind_of, framing}
-use Rattle.fh_wire.specs.Messages.{RequestIs, request_of, ResponseIs, response_of}
 use Rattle.fh_wire.specs.Messages.RequestIs.{whole}
 use Rattle.fh_wire.specs.Messages.ResponseIs.{whole as whole_response}
 use Rattle.fh_wire.specs.Sizes.{◌>>=◌, request_needs, response_needs, body_of}

@@ -1,6 +1,6 @@
 -- What the bytes that have come say of all the bytes of a source.
-use Rattle.std.proofs.Common.{◌≡◌, ℕ, ◌+◌, ◌-◌, ◌<◌, ◌≤◌, ◌==◌, nat_lt, Bool, true, false, ◌||◌, if◌then◌else◌, List, [], ◌∷◌, ◌++◌, length, take, drop, Option, Some, None, Result, Ok, Err, refl, sym, ap, ◌∙◌, subst, arith, append_assoc, append-nil, length-append, inl, inr}
-use Rattle.std.specs.Prelude.{◌⊎◌, IfOk, unwrap_or}
+use Rattle.std.proofs.Common.{◌≡◌, ℕ, ◌+◌, ◌-◌, ◌<◌, ◌≤◌, ◌==◌, nat_lt, Bool, true, false, ◌||◌, if◌then◌else◌, List, [], ◌++◌, length, take, drop, Option, Some, None, Result, Ok, Err, refl, sym, ap, ◌∙◌, subst, arith, append_assoc, append-nil, length-append, inl, inr}
+use Rattle.std.specs.Prelude.{◌⊎◌, unwrap_or}
 use Rattle.fh_base.specs.Faults.{Rose}
 use Rattle.std.specs.List.{fold}
 use Rattle.std.specs.Io.KnownBytes.{Consumes, IsAtEnd}
@@ -9,16 +9,14 @@ use Rattle.std.proofs.lemmas.Bool.Decides.{nat_tests}
 use Rattle.std.proofs.lemmas.List.{take_at, drop_at, take-append-le, take-append-drop}
 use Rattle.std.proofs.lemmas.List.Sums.{fold-append}
 use Rattle.httparse.specs.Grammar.{RequestHead, print_request, ReadsRequest, HasNoRequest}
-use Rattle.httparse.proofs.GrammarLemmas.{request_unique}
 use Rattle.fh_wire.specs.declared.fault.WireFault.{WireFault}
 use Rattle.fh_wire.specs.declared.fault.WireFault.TheVariants.{BadHead, BadLength, TooLong, Cut, Chunked, Coded, ReadFault, WriteFault, NoMemory}
 use Rattle.fh_wire.specs.declared.fields.Framing.{Framing}
-use Rattle.fh_wire.specs.declared.request.HttpIn.{HttpIn}
 use Rattle.fh_wire.specs.declared.scan.Scan.{Scan}
 use Rattle.fh_wire.specs.Causes.{Passes, IsReadCause, HasReadCause}
 use Rattle.fh_wire.specs.Scan.{fresh, stepped}
 use Rattle.fh_wire.specs.Fronts.{IsRefusedRequest, IsOpenRequest}
-use Rattle.fh_wire.specs.Messages.{front, RequestIs}
+use Rattle.fh_wire.specs.Messages.{front}
 use Rattle.fh_wire.specs.Messages.RequestIs.{refused, unended}
 use Rattle.fh_wire.specs.Reading.{known, Brings, ReadsBy, ReadsRequestFrom}
 use Rattle.fh_wire.specs.Sizes.{◌>>=◌, unfinished, fitting, request_needs, body_of}

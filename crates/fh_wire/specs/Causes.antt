@@ -1,5 +1,5 @@
 -- What the count of a source or a sink says of an answer, and what an answer may be instead of the defined one.
-use Rattle.std.specs.Prelude.{◌≡◌, ◌≢◌, ◌⊎◌, ℕ, Bool, true, Result, Ok, Err, MatchResult}
+use Rattle.std.specs.Prelude.{◌≡◌, ◌≢◌, ◌⊎◌, ℕ, Bool, true, Result, Err, MatchResult}
 use Rattle.fh_base.specs.Faults.{Rose}
 use Rattle.fh_wire.specs.declared.fault.WireFault.{WireFault}
 use Rattle.fh_wire.specs.declared.fault.WireFault.TheVariants.{ReadFault, WriteFault, NoMemory}

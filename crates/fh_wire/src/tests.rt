@@ -216,7 +216,7 @@ fn request_of(alloc: Global, fields: usize, size: usize) -> Result<Vec<u8>, Fail
     for _ in 0..fields {
         text.extend_from_slice(b"A: b\r\n")?;
     }
-    while text.len() < size {
+    for _ in text.len()..size {
         text.push(b'x')?;
     }
     Ok(text)

@@ -1,9 +1,8 @@
-use Rattle.std.proofs.Common.{◌≡◌, ◌∙◌, ◌≤◌, ◌<◌, ℕ, [], refl, false, true, ap, sym, subst, inl, inr, arith, rules, length, length-append, length-take}
+use Rattle.std.proofs.Common.{◌≡◌, ◌∙◌, ◌≤◌, ◌<◌, ℕ, [], refl, true, ap, sym, subst, inl, inr, arith, rules, length, length-take}
 use Rattle.std.specs.Io.KnownBytes.{Consumes, IsAtEnd}
 use Rattle.std.specs.List.{fold}
 use Rattle.std.specs.Prelude.{◌⊎◌}
 use Rattle.httparse.specs.Grammar.{HasNoRequest}
-use Rattle.fh_wire.specs.Causes.{Passes}
 use Rattle.fh_wire.specs.declared.scan.Scan.{Scan}
 use Rattle.fh_wire.specs.Messages.{front}
 use Rattle.fh_wire.specs.Scan.{fresh, stepped}

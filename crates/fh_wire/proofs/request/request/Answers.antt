@@ -1,4 +1,4 @@
-use Rattle.std.proofs.Common.{◌≡◌, ◌∙◌, ap, sym, subst}
+use Rattle.std.proofs.Common.{◌∙◌, sym, subst}
 use Rattle.httparse.specs.Grammar.{IsToken}
 use Rattle.fh_wire.proofs.Tokens.{method_token}
 use Rattle.fh_wire.proofs.request.request.Goals as goal
