@@ -1,0 +1,11 @@
+pub mod HeadLines
+pub mod Fronts
+pub mod WrittenHeads
+pub mod FrontBytes
+pub mod Refusing
+pub mod Sources
+pub mod Answering
+pub mod Tokens
+pub mod Phrases
+pub mod OneAnswer
+pub mod RoundTrip
