@@ -24,14 +24,6 @@ use Rattle.fh_hub.proofs.Steps.{ask_of, asks_as_told, named, peeks_nothing}
 named_short : (queue : List ℕ) (given : Asked) (all : Asks) → (if is_queue_name queue then given else Refuses BadName) ≡ AsksAll all → length queue ≤ 65536
 named_short queue given all is = omega (arith, queue_name_length queue (named queue given all is).good)
 
-<<<<<<< HEAD
-named : (queue : List ℕ) (given : Dispatch) (ask : Ask) → where_named queue given ≡ Asks ask → IsNamed queue (Asks ask) given
-named queue given ask is = by_test (is_queue_name queue) refl is
-  where
-    by_test : (good : Bool) → is_queue_name queue ≡ good → (if good then given else Refuses BadName) ≡ Asks ask → IsNamed queue (Asks ask) given
-    by_test true good is = record { name = omega (arith, queue_name_length queue good); same = cc }
-    by_test false good is = absurd (cc)
-=======
 by_command : (parts : Parts) (command : Command) (m : ℕ) (all : Asks) (after : QueuePart) (answer : QueueDone) → asked parts command m ≡ AsksAll all → HasShortTexts parts.queues m (ask_of command) after answer → HasNarrowTexts command
 unfolding asked
 by_command parts (MakeQueue queue) m all after answer asking short = (named_short queue _ all asking, tt)
@@ -42,7 +34,6 @@ by_command parts (Delete queue number receipt) m all after answer asking short =
 by_command parts (Clear queue) m all after answer asking short = (named_short queue _ all asking, tt)
 by_command parts (Peek queue count) m all after answer asking short = absurd (peeks_nothing (peeked parts.queues queue count m) all (sym (named queue _ all asking).same))
 by_command parts (Locate number) m all after answer asking short = absurd (cc)
->>>>>>> 33c2f0374b460c3ce2cc100b1b11fbdde01b505b
 
 pub narrow_texts : (parts : Parts) (command : Command) (m : ℕ) (all : Asks) (after : Parts) (done : Done) → IsWhole parts.queues → asked parts command m ≡ AsksAll all → outcomes parts all m ≡ Makes after done → HasNarrowTexts command
 narrow_texts parts command m all after done whole asking is =
