@@ -36,3 +36,5 @@ pub use memory_folder::MemoryFolder;
 pub use path_folder::PathFolder;
 pub use texts::Texts;
 
+#[cfg(test)]
+mod tests;

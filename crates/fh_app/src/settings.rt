@@ -6,7 +6,8 @@ ghost use Rattle.fh_app.specs.Answers.{Answers, Tells};
 ghost use Rattle.fh_app.specs.Settings.{settings_file, settings_of, pairs_behind};
 
 use crate::fault::{AppFault, bad_value};
-use fh_exprs::{Pairs, Text};
+use fh_base::{NoMemory, Text};
+use fh_exprs::Pairs;
 use serde_json::{Map, Value};
 use std::alloc::Global;
 
@@ -49,9 +50,9 @@ fn bad_setting(alloc: Global, name: &str) -> AppFault
     }
 }
 
-fn setting_of(alloc: Global, name: &str) -> Result<fh_base::Text, fh_base::NoMemory>
+fn setting_of(alloc: Global, name: &str) -> Result<Text, NoMemory>
     ensures { IfOk result (λ t. t ≡ codes "Values." ++ name.now) }
 {
     let text = format!(in alloc; "Values.{name}")?;
-    Ok(fh_base::Text::new(text))
+    Ok(Text::new(text))
 }

@@ -9,7 +9,8 @@ use Rattle.std.proofs.lemmas.Bool.Decides.{eqb_tells}
 use Rattle.fh_exprs.specs.declared.fault.ExprFault.TheVariants.{OpenBrace}
 use Rattle.fh_exprs.specs.declared.form.Naming.{Naming}
 use Rattle.fh_exprs.specs.Layout.{Layout}
-use Rattle.fh_exprs.specs.Form.{outside, inside, read_on, with_plain, with_name, name_fault, unless, is_brace, open_brace, close_brace, BeginsWithFault}
+use Rattle.fh_exprs.specs.Form.{outside, inside, read_on, with_plain, with_name, name_fault, unless, is_brace, open_brace, close_brace}
+use Rattle.fh_exprs.specs.Steps.{BeginsWithFault}
 use Rattle.fh_exprs.proofs.Cuts.{eqb-from_ne}
 
 -- a text of which the reading stands at this place

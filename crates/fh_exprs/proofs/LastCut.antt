@@ -1,5 +1,6 @@
 -- The last place of a plain text that leaves a character behind it.
-use Rattle.std.proofs.Common.{◌≡◌, ◌≢◌, ℕ, ◌+◌, ◌<◌, ◌≤◌, List, [], ◌∷◌, ◌++◌, length, take, drop, ap, sym, ◌∙◌, refl, subst, arith, append_assoc, append-nil, length-append, take-append-drop, inl, inr, ◌⊎◌}
+use Rattle.std.proofs.Common.{◌≡◌, ◌≢◌, ℕ, ◌+◌, ◌<◌, ◌≤◌, List, [], ◌∷◌, ◌++◌, length, take, drop, ap, sym, ◌∙◌, refl, subst, arith, append_assoc, append-nil, length-append, take-append-drop, inl, inr}
+use Rattle.std.proofs.lemmas.Bool.{cases_lt}
 use Rattle.std.specs.Str.{IsUtf8, IsCharBoundary}
 use Rattle.std.specs.Str.Pattern.{LacksTextAt, HasTextAt}
 use Rattle.std.proofs.Math.Utf8.{encode, encodes}
@@ -72,9 +73,6 @@ pub within_text : (shorter before : List ℕ) (i j : ℕ) → i ≤ length short
     → i + length before ≤ length shorter
 within_text shorter before i j le last at = let e = at.ends in let l = last.0 in omega arith
 
-order : (x y : ℕ) → (x ≤ y) ⊎ (y < x)
-order x y = grind arith
-
 -- what the search in the shorter text found, seen in the text
 pub found_whole : (text shorter before front : List ℕ) (c i j : ℕ) → text ≡ shorter ++ encode c → front ≡ take i shorter
     → HasTextAt before shorter i j → text ≡ front ++ (before ++ (drop j shorter ++ encode c))
@@ -123,8 +121,8 @@ last_cut text shorter before front c i j whole short plain utf8 e f within at la
       };
       last = λ other rest other_utf8 ne g.
           (let place = place_in_shorter text shorter before other rest c whole short plain other_utf8 e ne g in
-          elim (order (length other) i) [
-            | inl le ↦ omega arith
-            | inr beyond ↦ absurd (lacks (length other) beyond place.0 place.1.0 place.1.1)
+          elim (cases_lt i (length other)) [
+            | inl beyond ↦ absurd (lacks (length other) beyond place.0 place.1.0 place.1.1)
+            | inr le ↦ omega arith
           ]);
     }

@@ -1,17 +1,16 @@
 -- The texts that `matched` gives are the greatest reading, which is the only one.
-use Rattle.std.proofs.Common.{◌≡◌, ◌≢◌, ℕ, zero, suc, ◌+◌, ◌<◌, ◌≤◌, List, [], ◌∷◌, ◌++◌, length, map, take, drop, Bool, true, false, cond, Option, Some, None, option_map, refl, sym, ap, subst, ◌∙◌, arith, inl, inr, take-append-drop, length-append, MatchOption}
-use Rattle.std.specs.List.{AllByRecursion}
+use Rattle.std.proofs.Common.{◌≡◌, ◌≢◌, ℕ, zero, suc, ◌<◌, ◌≤◌, List, [], ◌∷◌, ◌++◌, length, map, take, drop, Bool, true, false, cond, Option, Some, None, option_map, refl, sym, ap, subst, ◌∙◌, arith, inl, inr, take-append-drop, length-append, MatchOption}
 use Rattle.std.specs.Option.{option_or, option_and_then}
 use Rattle.std.specs.Ordering.{nat_cmp}
 use Rattle.std.specs.declared.cmp.Ordering.TheVariants.{Greater}
 use Rattle.std.specs.Cmp.Lexicographic.{slice_cmp}
-use Rattle.std.specs.Str.{IsUtf8, is_utf8, bytes_eq}
+use Rattle.std.specs.Str.{is_utf8, bytes_eq}
 use Rattle.std.proofs.lemmas.Bool.{cases_lt}
 use Rattle.std.proofs.lemmas.List.{append_cancel_left, take_at, drop_at, length-take-le, length-map}
 use Rattle.std.proofs.lemmas.Slice.Eq.{bytes_eq-Decides}
 use Rattle.std.proofs.lemmas.Str.{IsUtf8-from_is_utf8, is_utf8-from_IsUtf8}
 use Rattle.fh_exprs.specs.Layout.{Spot, Layout, layout_of}
-use Rattle.fh_exprs.specs.Matching.{behind, onto, longest, matched_by, matched, spelled, IsFilledText, IsReading, IsGreatestReading, ReadsAs}
+use Rattle.fh_exprs.specs.Matching.{behind, onto, longest, matched_by, matched, spelled, IsReading, ReadsAs}
 use Rattle.fh_exprs.proofs.Order.{cmp_le, cmp_rest, cmp_not_greater}
 
 abbrev Pairs : Type 0
@@ -256,9 +255,9 @@ same_texts (spot ∷ spots) last (t ∷ a) (u ∷ b) one two sizes e =
     let size : length t ≡ length u = cc in
     let rest_sizes : map length a ≡ map length b = cc in
     let behind_plain : t ++ spelled spots last a ≡ u ++ spelled spots last b = append_cancel_left spot.0 _ _ e in
-    let head : t ≡ u = sym (take_at t (spelled spots last a) (length t) refl) ∙ ap (take (length t)) behind_plain ∙ take_at u (spelled spots last b) (length t) size in
+    let head : t ≡ u = sym (take_at t (spelled spots last a) (length t) refl) ∙ ap (take (length t)) behind_plain ∙ take_at u (spelled spots last b) (length t) (sym size) in
     let tail : spelled spots last a ≡ spelled spots last b =
-    sym (drop_at t (spelled spots last a) (length t) refl) ∙ ap (drop (length t)) behind_plain ∙ drop_at u (spelled spots last b) (length t) size in
+    sym (drop_at t (spelled spots last a) (length t) refl) ∙ ap (drop (length t)) behind_plain ∙ drop_at u (spelled spots last b) (length t) (sym size) in
     ap (λ x. x ∷ a) head ∙ ap (λ xs. u ∷ xs) (same_texts spots last a b (omega arith) (omega arith) rest_sizes tail)
 
 same_pairs : (a b : Pairs) → map (λ p. p.0) a ≡ map (λ p. p.0) b → map (λ p. p.1) a ≡ map (λ p. p.1) b → a ≡ b
@@ -277,7 +276,7 @@ one_reading layout name a b h k =
     let ta = map (λ p. p.1) a in
     let tb = map (λ p. p.1) b in
     let long : length (map length ta) ≡ length (map length tb) =
-    length-map length ta ∙ h.texts.reads.one_each ∙ sym k.texts.reads.one_each ∙ sym (length-map length tb) in
+    length-map ta length ∙ h.texts.reads.one_each ∙ sym k.texts.reads.one_each ∙ sym (length-map tb length) in
     let sizes : map length ta ≡ map length tb =
     same_lengths (map length ta) (map length tb) long (k.texts.greatest ta h.texts.reads) (h.texts.greatest tb k.texts.reads) in
     let texts : ta ≡ tb = same_texts layout.spots layout.last ta tb h.texts.reads.one_each k.texts.reads.one_each sizes (sym h.texts.reads.whole ∙ k.texts.reads.whole) in

@@ -1,18 +1,16 @@
 -- Lists of lengths in lexicographic order, and front parts of one text.
-use Rattle.std.proofs.Common.{◌≡◌, ◌≢◌, ℕ, ◌<◌, ◌≤◌, List, [], ◌∷◌, ◌++◌, length, ap, sym, ◌∙◌, refl, arith, inl, inr, ◌⊎◌}
+use Rattle.std.proofs.Common.{◌≡◌, ◌≢◌, ℕ, ◌≤◌, List, [], ◌∷◌, ◌++◌, length, ap, sym, ◌∙◌, refl, arith, inl, inr}
+use Rattle.std.proofs.lemmas.Bool.{cases_order}
 use Rattle.std.specs.Ordering.{nat_cmp, ordering_then}
 use Rattle.std.specs.Cmp.{nat_cmp_is}
 use Rattle.std.specs.Cmp.Lexicographic.{slice_cmp}
 use Rattle.std.specs.declared.cmp.Ordering.TheVariants.{Less, Equal, Greater}
 
-order : (x y : ℕ) → (x < y) ⊎ ((x ≡ y) ⊎ (y < x))
-order x y = grind arith
-
 pub cmp_le : (x y : ℕ) (xs ys : List ℕ) → slice_cmp nat_cmp (x ∷ xs) (y ∷ ys) ≢ Greater → x ≤ y
-cmp_le x y xs ys h = elim (order x y) [
-  | inl less ↦ omega arith
-  | inr more ↦ (elim more [
-    | inl same ↦ omega arith
+cmp_le x y xs ys h = elim (cases_order x y) [
+  | inl same ↦ omega arith
+  | inr other ↦ (elim other [
+    | inl less ↦ omega arith
     | inr greater ↦ absurd (h (ap (λ o. ordering_then o (slice_cmp nat_cmp xs ys)) (sym (nat_cmp_is x y Greater greater))))
   ])
 ]
@@ -22,10 +20,10 @@ cmp_rest x y xs ys e h g = h (ap (λ o. ordering_then o (slice_cmp nat_cmp xs ys
 
 pub cmp_not_greater : (x y : ℕ) (xs ys : List ℕ) → x ≤ y → (x ≡ y → slice_cmp nat_cmp xs ys ≢ Greater)
     → slice_cmp nat_cmp (x ∷ xs) (y ∷ ys) ≢ Greater
-cmp_not_greater x y xs ys le h g = elim (order x y) [
-  | inl less ↦ (let e : Less ≡ Greater = ap (λ o. ordering_then o (slice_cmp nat_cmp xs ys)) (nat_cmp_is x y Less less) ∙ g in cc)
-  | inr more ↦ (elim more [
-    | inl same ↦ h same (ap (λ o. ordering_then o (slice_cmp nat_cmp xs ys)) (nat_cmp_is x y Equal same) ∙ g)
+cmp_not_greater x y xs ys le h g = elim (cases_order x y) [
+  | inl same ↦ h same (ap (λ o. ordering_then o (slice_cmp nat_cmp xs ys)) (nat_cmp_is x y Equal same) ∙ g)
+  | inr other ↦ (elim other [
+    | inl less ↦ (let e : Less ≡ Greater = ap (λ o. ordering_then o (slice_cmp nat_cmp xs ys)) (nat_cmp_is x y Less less) ∙ g in cc)
     | inr greater ↦ absurd (omega arith)
   ])
 ]

@@ -4,7 +4,8 @@ use Rattle.std.specs.Prelude.{Result, Ok, Err}
 use Rattle.std.specs.List.{slice_split}
 use Rattle.fh_exprs.specs.declared.fault.ExprFault.{ExprFault}
 use Rattle.fh_exprs.specs.Answers.{joined, mapped}
-use Rattle.fh_exprs.specs.Settings.{percent, pieced, replaced, replacement, IsWithoutSettings, BeginsWithSetting}
+use Rattle.fh_exprs.specs.Settings.{percent, pieced, replaced, replacement}
+use Rattle.fh_exprs.specs.Steps.{IsWithoutSettings, BeginsWithSetting}
 use Rattle.fh_exprs.proofs.Cuts.{split_one, split_more, slice_split-ne_nil}
 
 abbrev Lacks : List ℕ → Type 0

@@ -23,11 +23,6 @@ joined f (Err e) second = Err e
 joined f (Ok a) (Err e) = Err e
 joined f (Ok a) (Ok b) = Ok (f a b)
 
--- on success, what was changed is now what is given
-abbrev pub Leaves : {U T : Type 0} → Result U ExprFault → T → Result T ExprFault → Type 0
-Leaves (Ok _) now given = given ≡ Ok now
-Leaves (Err e) now given = IsFaultOf e given
-
 abbrev pub mapped : {A B : Type 0} → (A → B) → Result A ExprFault → Result B ExprFault
 mapped f (Ok a) = Ok (f a)
 mapped f (Err e) = Err e

@@ -1,5 +1,5 @@
 -- How a text is read as plain text with named places, from the left.
-use Rattle.std.specs.Prelude.{◌≡◌, ◌≢◌, ℕ, ◌+◌, ◌-◌, ◌==◌, Bool, not, ◌||◌, List, [], ◌∷◌, ◌++◌, length, codes, Option, Some, None, Result, Ok, Err, if◌then◌else◌}
+use Rattle.std.specs.Prelude.{ℕ, ◌+◌, ◌==◌, Bool, not, ◌||◌, List, [], ◌∷◌, ◌++◌, length, codes, Option, Some, None, Result, Ok, Err, if◌then◌else◌}
 use Rattle.std.specs.List.{list_all, list_any}
 use Rattle.std.specs.Char.{is_ascii_alphanumeric}
 use Rattle.std.specs.Str.{bytes_eq}
@@ -7,8 +7,6 @@ use Rattle.fh_exprs.specs.declared.fault.ExprFault.{ExprFault}
 use Rattle.fh_exprs.specs.declared.fault.ExprFault.TheVariants.{OpenBrace, SameName}
 use Rattle.fh_exprs.specs.declared.form.Naming.{Naming}
 use Rattle.fh_exprs.specs.declared.form.Naming.TheVariants.{Free, Distinct}
-use Rattle.fh_exprs.specs.declared.form.Element.{Element}
-use Rattle.fh_exprs.specs.declared.form.Element.TheVariants.{Plain, Name}
 use Rattle.fh_exprs.specs.Layout.{Layout}
 
 abbrev pub open_brace : ℕ
@@ -88,18 +86,3 @@ reading naming text = read_on naming blank (outside 0) text
 abbrev pub reading_of : Naming → Result (List ℕ) ExprFault → Result Layout ExprFault
 reading_of naming (Ok text) = reading naming text
 reading_of naming (Err fault) = Err fault
-
--- a text that begins with this element reads as the element and what the rest reads as
-abbrev pub BeginsWith : List ℕ → Element → List ℕ → Type 0
-BeginsWith text (Plain plain) rest = (naming : Naming) (layout : Layout) (at : ℕ)
-    → read_on naming layout (outside at) text
-    ≡ read_on naming (with_plain plain.now layout) (outside (at + (length text - length rest))) rest
-BeginsWith text (Name name) rest = (naming : Naming) (layout : Layout) (at : ℕ)
-    → read_on naming layout (outside at) text
-    ≡ unless (name_fault naming layout at name.now)
-    (read_on naming (with_name name.now layout) (outside (at + (length text - length rest))) rest)
-
--- a text that begins with a brace of another use has its first fault there
-abbrev pub BeginsWithFault : List ℕ → Type 0
-BeginsWithFault text = (naming : Naming) (layout : Layout) (at : ℕ) → text ≢ []
-    → read_on naming layout (outside at) text ≡ Err (OpenBrace at)

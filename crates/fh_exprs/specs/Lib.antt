@@ -3,6 +3,8 @@ pub mod Pairs
 pub mod Settings
 pub mod Layout
 pub mod Form
+pub mod Steps
+pub mod Names
 pub mod Matching
 pub mod Tails
 pub mod Written

@@ -1,5 +1,5 @@
 -- App settings in a text, written between percent signs.
-use Rattle.std.specs.Prelude.{◌≡◌, ℕ, ◌==◌, List, [], ◌∷◌, ◌++◌, Result, Ok}
+use Rattle.std.specs.Prelude.{ℕ, ◌==◌, List, [], ◌∷◌, ◌++◌, Result, Ok}
 use Rattle.std.specs.List.{slice_split}
 use Rattle.std.specs.Option.{ok_or}
 use Rattle.fh_exprs.specs.declared.fault.ExprFault.{ExprFault}
@@ -27,12 +27,3 @@ pieced settings (text ∷ name ∷ next ∷ pieces) =
 -- the text with its settings replaced, once; or the first name that is no setting's
 unfoldable pub replaced : List (List ℕ × List ℕ) → List ℕ → Result (List ℕ) ExprFault
 replaced settings text = pieced settings (slice_split (λ b. b == percent) text)
-
--- such a text stays as it is
-abbrev pub IsWithoutSettings : List ℕ → Type 0
-IsWithoutSettings text = (settings : List (List ℕ × List ℕ)) → replaced settings text ≡ Ok text
-
--- the text's first two percent signs have this between them
-abbrev pub BeginsWithSetting : List ℕ → List ℕ → List ℕ → List ℕ → Type 0
-BeginsWithSetting text before name rest = (settings : List (List ℕ × List ℕ))
-    → replaced settings text ≡ joined (λ value more. before ++ (value ++ more)) (replacement settings name) (replaced settings rest)

@@ -3,8 +3,7 @@
 ghost use Rattle.std.specs.Prelude.{◌≡◌};
 ghost use Rattle.fh_exprs.specs.declared.fault.ExprFault.TheVariants.{NoMemory as WantOfMemory};
 
-use crate::text::Text;
-use fh_base::NoMemory;
+use fh_base::{NoMemory, Text};
 use std::alloc::{AllocError, AllocFailed};
 
 /// The first fault of an expression.

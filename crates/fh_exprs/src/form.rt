@@ -1,14 +1,17 @@
 //! Reading a text as plain text with named places.
 
-ghost use Rattle.std.specs.Prelude.{◌≡◌, ◌≢◌, ◌<◌, ◌||◌, ◌∷◌, [], List, ℕ, length, Ok, IfNone, IfSome};
-ghost use Rattle.std.specs.List.{list_all, list_any, position, position_or_len};
+ghost use Rattle.std.specs.Prelude.{◌≡◌, ◌≢◌, ◌<◌, ◌||◌, ◌∷◌, [], List, ℕ, length, Ok, IfNone, IfSome, OnOk};
+ghost use Rattle.std.specs.List.{list_all, position, position_or_len};
 ghost use Rattle.std.specs.Str.{bytes_eq};
-ghost use Rattle.fh_exprs.specs.Form.{BeginsWith, BeginsWithFault, is_word_byte as is_word_byte_lem, is_host_name as is_host_name_lem, is_brace, open_brace};
-ghost use Rattle.fh_exprs.specs.Answers.{Gives, Leaves};
+ghost use Rattle.fh_exprs.specs.Form.{is_word_byte as is_word_byte_lem, is_host_name as is_host_name_lem, is_brace, open_brace};
+ghost use Rattle.fh_exprs.specs.Names.{has_name, spots_have, KnowsNames};
+ghost use Rattle.fh_exprs.specs.Answers.{Gives};
+ghost use Rattle.fh_exprs.specs.Steps.{BeginsWith, BeginsWithFault, Leaves};
 
 use crate::fault::ExprFault;
 use crate::settings::Settings;
-use crate::text::Text;
+use crate::taken::Taken;
+use fh_base::Text;
 use std::alloc::Global;
 use std::marker::Model;
 
@@ -67,6 +70,7 @@ impl Form {
         ensures { Gives (λ f. f) result (reading naming text.now) }
     {
         let mut form = Form::new(alloc);
+        let mut taken = Taken::new(alloc);
         let mut rest = text;
         while !rest.is_empty() {
             let at = (text.len() - rest.len()) as u64;
@@ -75,7 +79,7 @@ impl Form {
             };
             match element {
                 Element::Plain(plain) => form.add_plain(plain)?,
-                Element::Name(name) => form.add_name(alloc, name, at, naming)?,
+                Element::Name(name) => form.add_name(alloc, name, at, naming, &mut taken)?,
             }
             rest = after;
         }
@@ -99,7 +103,7 @@ impl Form {
     {
         Form {
             places: Vec::new(alloc),
-            last: Text::new(alloc),
+            last: Text::empty(alloc),
         }
     }
 
@@ -110,34 +114,47 @@ impl Form {
         Ok(())
     }
 
-    fn add_name(
+    // `taken` has the names so far, where they have to differ.
+    fn add_name<'t>(
         &mut self,
         alloc: Global,
-        name: &str,
+        name: &'t str,
         at: u64,
         naming: Naming,
+        taken: &mut Taken<'t>,
     ) -> Result<(), ExprFault>
-        ensures { Leaves result self.new
+        requires { KnowsNames naming taken.old self.old.spots }
+        ensures leaves { Leaves result self.new
             (unless (name_fault naming self.old at name.now) (Ok (with_name name.now self.old))) }
+        ensures names { OnOk result (KnowsNames naming taken.new self.new.spots) }
     {
         if naming == Naming::Distinct {
-            self.judge(alloc, name, at)?;
+            self.judge(alloc, name, at, taken)?;
         }
         let name = Text::from_str(alloc, name)?;
-        let before = std::mem::replace(&mut self.last, Text::new(alloc));
+        let before = std::mem::replace(&mut self.last, Text::empty(alloc));
         self.places.push((before, name))?;
         Ok(())
     }
 
     // The fault of one more name of a pattern, whose brace stands at this byte.
-    fn judge(&self, alloc: Global, name: &str, at: u64) -> Result<(), ExprFault>
-        ensures { Leaves result self.now
+    fn judge<'t>(
+        &self,
+        alloc: Global,
+        name: &'t str,
+        at: u64,
+        taken: &mut Taken<'t>,
+    ) -> Result<(), ExprFault>
+        requires { (other : List ℕ) → has_name taken.old other ≡ spots_have self.now.spots other }
+        ensures leaves { Leaves result self.now
             (unless (name_fault Naming.Distinct self.now at name.now) (Ok self.now)) }
+        ensures names { OnOk result ((other : List ℕ) → has_name taken.new other
+            ≡ (spots_have self.now.spots other || bytes_eq name.now other)) }
     {
         if !is_word(name) {
             return Err(ExprFault::OpenBrace { at });
         }
-        if is_taken(self.places(), name) {
+        if is_host_name(name) || !taken.add(name)? {
             let name = Text::from_str(alloc, name)?;
             return Err(ExprFault::SameName { name });
         }
@@ -155,20 +172,6 @@ fn is_word_byte(b: u8) -> bool
     ensures { result ≡ is_word_byte_lem b }
 {
     b.is_ascii_alphanumeric() || b == b'_'
-}
-
-// Whether the host or an earlier place has this name.
-fn is_taken(places: &[Place], name: &str) -> bool
-    ensures { result ≡ (is_host_name_lem name.now
-        || list_any (λ spot. bytes_eq spot.1 name.now) places.now) }
-{
-    is_host_name(name) || has_name(places, name)
-}
-
-fn has_name(places: &[Place], name: &str) -> bool
-    ensures { result ≡ list_any (λ spot. bytes_eq spot.1 name.now) places.now }
-{
-    places.iter().any(|place| place.1.as_str() == name)
 }
 
 fn is_host_name(name: &str) -> bool

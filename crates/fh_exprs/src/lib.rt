@@ -4,13 +4,16 @@
 //! above:
 //! - `Template::read` and `Pattern::read` replace settings once and then read plain text and names
 //!   from the left; they answer exactly the first fault, and a missing setting before any other.
-//!   What is read gives the text again when it is written out.
+//!   What is read gives the text again when it is written out. `Settings::replace` and
+//!   `Pattern::read_replaced` are the two steps apart.
 //! - `Template::resolve` gives exactly the plain texts and the values of the names, one behind the
 //!   other, or the first name without a text.
 //! - `Pattern::matches` gives, of all ways to read a name by a pattern, the one whose first name has
 //!   the longest text, then whose second has, and so on, and `None` exactly where there is no way.
 //!
-//! Definitions: `specs/Settings.antt`, `Layout`, `Form`, `Written`, `Json`, `Values` and `Matching`.
+//! Definitions, in the order to read them: `specs/Settings.antt`, `Layout`, `Form`, `Written`, `Json`,
+//! `Values` and `Matching`. `Steps`, `Names` and `Tails` are for private
+//! functions alone.
 #![tactic(auto)]
 
 mod fault;
@@ -19,8 +22,8 @@ mod matching;
 mod pairs;
 mod pattern;
 mod settings;
+mod taken;
 mod template;
-mod text;
 mod values;
 
 pub use fault::ExprFault;
@@ -28,8 +31,7 @@ pub use pairs::Pairs;
 pub use pattern::Pattern;
 pub use settings::Settings;
 pub use template::Template;
-pub use text::Text;
-pub use values::Values;
+pub use values::{Values, member_of};
 
 #[cfg(test)]
 mod tests;

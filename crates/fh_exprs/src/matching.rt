@@ -10,9 +10,8 @@ ghost use Rattle.fh_exprs.specs.Matching.{IsFilledText, IsReading, ReadsAs};
 ghost use Rattle.fh_exprs.specs.Tails.{IsTail, EndsAs, IsLastCut, HasNoCut};
 
 use crate::form::Place;
-use crate::text::Text;
-use fh_base::NoMemory;
-use std::alloc::{AllocError, Global};
+use fh_base::{NoMemory, Text};
+use std::alloc::Global;
 
 /// The names of the places with the texts of the greatest reading.
 pub fn read_by(
@@ -96,7 +95,7 @@ fn read_later<'n>(
     Ok(Some(rest))
 }
 
-fn pair_of(alloc: Global, place: &Place, text: &str) -> Result<(Text, Text), AllocError>
+fn pair_of(alloc: Global, place: &Place, text: &str) -> Result<(Text, Text), NoMemory>
     ensures { IfOk result (λ pair. pair ≡ (place.now.1, text.now)) }
 {
     let name = Text::from_str(alloc, place.1.as_str())?;

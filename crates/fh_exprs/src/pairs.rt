@@ -4,7 +4,7 @@ ghost use Rattle.std.specs.Prelude.{◌≡◌};
 ghost use Rattle.std.specs.Option.{option_copied};
 ghost use Rattle.fh_exprs.specs.Pairs.{text_at};
 
-use crate::text::Text;
+use fh_base::Text;
 use std::marker::Model;
 
 /// Names with their texts, in order. Of two pairs with one name the first counts. Contracts see the

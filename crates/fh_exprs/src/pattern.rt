@@ -7,8 +7,7 @@ use crate::fault::ExprFault;
 use crate::form::{Form, Naming};
 use crate::matching;
 use crate::settings::Settings;
-use crate::text::Text;
-use fh_base::NoMemory;
+use fh_base::{NoMemory, Text};
 use std::alloc::Global;
 use std::marker::Model;
 

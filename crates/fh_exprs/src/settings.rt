@@ -2,11 +2,12 @@
 
 ghost use Rattle.std.specs.Prelude.{◌<◌, length, string_bytes, MatchOption, IfSome};
 ghost use Rattle.fh_exprs.specs.Answers.{Gives};
-ghost use Rattle.fh_exprs.specs.Settings.{replaced, replacement, IsWithoutSettings, BeginsWithSetting};
+ghost use Rattle.fh_exprs.specs.Settings.{replaced, replacement};
+ghost use Rattle.fh_exprs.specs.Steps.{IsWithoutSettings, BeginsWithSetting};
 
 use crate::fault::ExprFault;
 use crate::pairs::Pairs;
-use crate::text::Text;
+use fh_base::Text;
 use std::alloc::Global;
 
 /// The app's settings.

@@ -1,9 +1,10 @@
 use super::*;
+use fh_base::{NoMemory, Text};
 use serde_json::Value;
 use std::alloc::{AllocError, Global};
 use std::test::Fail;
 
-fn pairs_of(alloc: Global, entries: &[(&str, &str)]) -> Result<Pairs, AllocError> {
+fn pairs_of(alloc: Global, entries: &[(&str, &str)]) -> Result<Pairs, NoMemory> {
     let mut pairs = Vec::new(alloc);
     for entry in entries {
         let name = Text::from_str(alloc, entry.0)?;
@@ -13,7 +14,7 @@ fn pairs_of(alloc: Global, entries: &[(&str, &str)]) -> Result<Pairs, AllocError
     Ok(Pairs::from_vec(pairs))
 }
 
-fn settings_of(alloc: Global) -> Result<Settings, AllocError> {
+fn settings_of(alloc: Global) -> Result<Settings, NoMemory> {
     let entries = [
         ("queue", "orders"),
         ("inner", "%queue%"),
@@ -32,7 +33,7 @@ const MESSAGE: &str =
     \"f\":1.5,\"e\":1e2,\"z\":-0,\"big\":18446744073709551615,\"huge\":18446744073709551616,\"list\":[1],\
     \"low\":-9223372036854775808,\"o\":{\"p\":{\"q\":\"deep\"},\"\":\"dot\"},\"\":\"blank\",\"a.b\":\"x\",\"text\":\"{n}\"}";
 
-fn values_of(alloc: Global, message: &str) -> Result<Values, AllocError> {
+fn values_of(alloc: Global, message: &str) -> Result<Values, NoMemory> {
     let entries = [
         ("rand-guid", "G"),
         ("sys.RandGuid", "G"),
@@ -81,10 +82,14 @@ fn matched_text(
     settings: &Settings,
     name: &str,
 ) -> Result<String, AllocError> {
-    let pattern = match Pattern::read(alloc, text, settings) {
-        Ok(pattern) => pattern,
-        Err(fault) => return fault_text(alloc, &fault),
-    };
+    match Pattern::read(alloc, text, settings) {
+        Ok(pattern) => found_text(alloc, &pattern, name),
+        Err(fault) => fault_text(alloc, &fault),
+    }
+}
+
+// The names with their texts, or `none`.
+fn found_text(alloc: Global, pattern: &Pattern, name: &str) -> Result<String, AllocError> {
     let Ok(found) = pattern.matches(alloc, name) else {
         return format!(in alloc; "NoMemory");
     };
@@ -289,6 +294,27 @@ fn patterns_name_each_text_once(rt: HostRuntime) -> Result<(), Fail> {
     for row in &NAMED {
         let shown = matched_text(alloc, row.0, &settings, "xy")?;
         assert_eq!(rt; shown.as_str(), row.1, "of {}", row.0);
+    }
+    Ok(())
+}
+
+static PATHS: [(&str, &str, &str); 3] = [
+    ("%queue%/{name}", "7", "name=7;"),
+    ("in/%queue%-{name}", "orders-7", "name=7;"),
+    ("in/%inner%/{name}", "%queue%/7", "name=7;"),
+];
+
+// The path is replaced whole and cut at its first slash, and the rest is the pattern.
+#[test]
+fn a_replaced_path_is_not_replaced_again(rt: HostRuntime) -> Result<(), Fail> {
+    let alloc = rt.alloc();
+    let settings = settings_of(alloc)?;
+    for row in &PATHS {
+        let path = settings.replace(alloc, row.0)?;
+        let (_, text) = path.as_str().split_once('/').ok_or("no slash")?;
+        let pattern = Pattern::read_replaced(alloc, text)?;
+        let shown = found_text(alloc, &pattern, row.1)?;
+        assert_eq!(rt; shown.as_str(), row.2, "of {} at {}", row.0, row.1);
     }
     Ok(())
 }

@@ -8,9 +8,9 @@ ghost use Rattle.fh_exprs.specs.Json.{member_at, json_text as json_text_lem, dot
 
 use crate::fault::ExprFault;
 use crate::pairs::Pairs;
-use crate::text::Text;
+use fh_base::{NoMemory, Text};
 use serde_json::Value;
-use std::alloc::{AllocError, Global};
+use std::alloc::Global;
 
 /// What is known when a template is resolved.
 #[derive(Drop)]
@@ -64,7 +64,9 @@ impl Values {
     }
 }
 
-fn member_of<'v>(message: &'v Value, name: &str) -> Option<&'v Value>
+/// The value at a path in a JSON value: the names of members with dots between them. A value on the way
+/// that is no object has no members.
+pub fn member_of<'v>(message: &'v Value, name: &str) -> Option<&'v Value>
     ensures { option_map (λ v. view v.now) result
         ≡ member_at (slice_split (λ b. b == dot) name.now) (view message.now) }
 {
@@ -78,7 +80,7 @@ fn member_of<'v>(message: &'v Value, name: &str) -> Option<&'v Value>
 }
 
 // A text as it is, a whole number in decimal, `true` or `false`.
-fn json_text(alloc: Global, value: &Value) -> Result<Option<Text>, AllocError>
+fn json_text(alloc: Global, value: &Value) -> Result<Option<Text>, NoMemory>
     ensures { IfOk result (λ o. o ≡ json_text_lem (view value.now)) }
 {
     if let Some(text) = value.as_str() {
@@ -90,11 +92,11 @@ fn json_text(alloc: Global, value: &Value) -> Result<Option<Text>, AllocError>
     }
     if let Some(number) = value.as_u64() {
         let text = format!(in alloc; "{number}")?;
-        return Ok(Some(Text::from_string(text)));
+        return Ok(Some(Text::new(text)));
     }
     if let Some(number) = value.as_i64() {
         let text = format!(in alloc; "{number}")?;
-        return Ok(Some(Text::from_string(text)));
+        return Ok(Some(Text::new(text)));
     }
     Ok(None)
 }

@@ -1,14 +1,15 @@
 -- Dates by their places and by their numbers: where no date of a schedule lies, and the least one.
 use Rattle.std.proofs.Common.{◌≡◌, ℕ, ◌+◌, ◌%◌, ◌<◌, ◌≤◌, inl, inr, Bool, true, false, ◌&&◌, Some, None, refl, sym, ap, subst, ◌∙◌, arith, rules, ℤ, pos, negsuc, ◌+ℤ◌, ◌-ℤ◌, ◌<ℤ◌, ◌≤ℤ◌, unsigned_abs}
 use Rattle.std.proofs.lemmas.Bool.{cases_lt}
-use Rattle.std.proofs.lemmas.Int.{by_lt_z}
+use Rattle.std.specs.Ordering.{int_cmp}
+use Rattle.std.proofs.lemmas.Int.{by_lt_z, ints}
 use Rattle.jiff_core.specs.declared.civil.date.Date.{Date}
 use Rattle.jiff_core.specs.Date.{epoch_day, weekday_of}
 use Rattle.jiff_core.specs.Calendar.{day_count, weekday_number, days_in_month}
 use Rattle.jiff_core.proofs.SignedLemmas.{signed_arith}
 use Rattle.jiff_core.proofs.CalendarLemmas.{days_from_civil-day_count, days_in_month_bounds}
 use Rattle.jiff_core.proofs.MarchLemmas.{day_count-early}
-use Rattle.jiff_core.proofs.DateLemmas.{IsEarlier, epoch_day-lt, epoch_day_same, epoch_day_range, cases_date}
+use Rattle.jiff_core.proofs.DateLemmas.{epoch_day-lt, epoch_day_same, epoch_day_range, date_key, date_key-epoch_day}
 use Rattle.fh_ncrontab.specs.declared.schedule.Schedule.{Schedule}
 use Rattle.fh_ncrontab.specs.Sets.{holds}
 use Rattle.fh_ncrontab.specs.Search.{IsLeastFrom, IsNextIn}
@@ -111,50 +112,36 @@ first_behind s a b c high top d gap next low up first =
           ];
     }
 
--- a date that is earlier has a smaller place
-place-earlier : (a b : Date) (x y : ℕ) → a.year ≡ pos x → b.year ≡ pos y → IsEarlier a b → place x a.month a.day < place y b.month b.day
-place-earlier a b x y is_x is_y (inl year) =
-    let lt : pos x <ℤ pos y = rw (← is_x, ← is_y) year in
-    let days = days_in_month_bounds a.year a.month in
-    omega (arith, signed_arith, a.day_in, a.month_in)
-place-earlier a b x y is_x is_y (inr (year, inl month)) =
-    let same : pos x ≡ pos y = sym is_x ∙ year ∙ is_y in
-    let days = days_in_month_bounds a.year a.month in
-    let equal : x ≡ y = cc in
-    omega (arith, a.day_in)
-place-earlier a b x y is_x is_y (inr (year, inr (month, day))) =
-    let same : pos x ≡ pos y = sym is_x ∙ year ∙ is_y in
-    let equal : x ≡ y = cc in
-    omega arith
+-- a date's place is its key in the calendar, and keys are in the order of the days
+key : (d : Date) (year : ℕ) → d.year ≡ pos year → date_key d ≡ pos (place year d.month d.day)
+key d year is_year = rw is_year (omega (arith, signed_arith))
+
+same_le : (a b x y : ℤ) → int_cmp a b ≡ int_cmp x y → a ≤ℤ b → x ≤ℤ y
+same_le a b x y same le = grind (arith, ints)
+
+same_lt : (a b x y : ℤ) → int_cmp a b ≡ int_cmp x y → a <ℤ b → x <ℤ y
+same_lt a b x y same lt = grind (arith, ints)
 
 pub epoch_day-le : (a b : Date) (x y : ℕ) → a.year ≡ pos x → b.year ≡ pos y → place x a.month a.day ≤ place y b.month b.day → epoch_day a ≤ℤ epoch_day b
 epoch_day-le a b x y is_x is_y le =
-    elim (cases_date a b) [
-      | inl lt ↦ let below = epoch_day-lt a b lt in omega (arith, signed_arith, below)
-      | inr (inl gt) ↦ absurd (let above = place-earlier b a y x is_y is_x gt in omega arith)
-      | inr (inr (year, month, day)) ↦ let same = epoch_day_same a b year month day in omega (arith, signed_arith, same)
-    ]
+    let first = key a x is_x in
+    let second = key b y is_y in
+    let keys : date_key a ≤ℤ date_key b = omega (arith, signed_arith, first, second) in
+    same_le _ _ _ _ (date_key-epoch_day a b).0 keys
 
 pub place-le : (a b : Date) (x y : ℕ) → a.year ≡ pos x → b.year ≡ pos y → epoch_day a ≤ℤ epoch_day b → place x a.month a.day ≤ place y b.month b.day
 place-le a b x y is_x is_y le =
-    elim (cases_lt (place y b.month b.day) (place x a.month a.day)) [
-      | inl lt ↦ elim (cases_date a b) [
-        | inl earlier ↦ let below = place-earlier a b x y is_x is_y earlier in omega arith
-        | inr (inl later) ↦ absurd (let above = epoch_day-lt b a later in omega (arith, signed_arith, above))
-        | inr (inr (year, month, day)) ↦
-            let same : pos x ≡ pos y = sym is_x ∙ year ∙ is_y in
-            let equal : x ≡ y = cc in
-            omega arith
-      ]
-      | inr ge ↦ ge
-    ]
+    let first = key a x is_x in
+    let second = key b y is_y in
+    let keys : date_key a ≤ℤ date_key b = same_le _ _ _ _ (sym (date_key-epoch_day a b).0) le in
+    omega (arith, signed_arith, first, second, keys)
 
 pub place-lt : (a b : Date) (x y : ℕ) → a.year ≡ pos x → b.year ≡ pos y → epoch_day a <ℤ epoch_day b → place x a.month a.day < place y b.month b.day
 place-lt a b x y is_x is_y lt =
-    elim (cases_lt (place x a.month a.day) (place y b.month b.day)) [
-      | inl below ↦ below
-      | inr ge ↦ absurd (let back = epoch_day-le b a y x is_y is_x ge in omega (arith, signed_arith, back))
-    ]
+    let first = key a x is_x in
+    let second = key b y is_y in
+    let keys : date_key a <ℤ date_key b = same_lt _ _ _ _ (sym (date_key-epoch_day a b).0) lt in
+    omega (arith, signed_arith, first, second, keys)
 
 first : Date
 first = record { year = pos 0; month = 1; day = 1; year_in = search rules; month_in = search rules; day_in = search rules }

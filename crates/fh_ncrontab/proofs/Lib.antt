@@ -4,4 +4,5 @@ pub mod MaskLemmas
 pub mod NextLemmas
 pub mod PartLemmas
 pub mod ReadLemmas
+pub mod RepeatLemmas
 pub mod SetLemmas

@@ -1,5 +1,5 @@
 -- The least second, as the search finds it, is the one that the definitions give.
-use Rattle.std.proofs.Common.{◌≡◌, ℕ, zero, suc, ◌+◌, ◌-◌, ◌*◌, ◌/◌, ◌%◌, ◌<◌, ◌≤◌, inl, inr, Bool, true, false, ◌&&◌, ◌||◌, nat_le, nat_eq, cond, Option, Some, None, option_map, IfSome, refl, sym, ap, subst, ◌∙◌, arith, rules, ℤ, pos, negsuc, neg_ℤ, ◌+ℤ◌, ◌-ℤ◌, ◌<ℤ◌, ◌≤ℤ◌, unsigned_abs, to_z, of_z, w64}
+use Rattle.std.proofs.Common.{◌≡◌, ℕ, zero, suc, ◌+◌, ◌-◌, ◌/◌, ◌%◌, ◌<◌, ◌≤◌, inl, inr, Bool, true, false, ◌&&◌, ◌||◌, nat_le, cond, Option, Some, None, option_map, IfSome, refl, sym, ap, subst, ◌∙◌, arith, ℤ, pos, negsuc, neg_ℤ, ◌+ℤ◌, ◌-ℤ◌, ◌≤ℤ◌, unsigned_abs, to_z, of_z, w64}
 use Rattle.std.specs.Int.{int_div_euclid, int_rem_euclid}
 use Rattle.std.specs.Ordering.{int_eq}
 use Rattle.std.proofs.lemmas.Bool.{cases_lt}
@@ -13,7 +13,7 @@ use Rattle.fh_ncrontab.specs.declared.schedule.Schedule.{Schedule}
 use Rattle.fh_ncrontab.specs.Sets.{holds}
 use Rattle.fh_ncrontab.specs.Search.{IsLeastFrom, IsIn}
 use Rattle.fh_ncrontab.specs.Dates.{DayIn}
-use Rattle.fh_ncrontab.specs.Schedule.{some_below, is_civil, has_date, is_day, is_time, is_in, first_of, first_from, next, last_second}
+use Rattle.fh_ncrontab.specs.Schedule.{some_below, is_civil, has_date, is_day, is_time, is_in, first_of, first_from, next, IsNext, last_second}
 use Rattle.fh_ncrontab.proofs.DayLemmas.{year_of, counted}
 use Rattle.fh_ncrontab.proofs.MaskLemmas.{both, each}
 
@@ -185,20 +185,24 @@ is_in-told s n h =
     (is_day-told s (n / 86400) halves.0, (time.0, (minute.0, minute.1)))
 
 -- the search over seconds, in numbers from the year 0 on
-one_on : (n : ℕ) → second_at n +ℤ pos 1 ≡ second_at (n + 1)
-one_on n = omega (arith, signed_arith)
+first_branch : (at : ℕ → ℤ) (b : Bool) (from : ℕ) (later : Option ℕ) → cond b (Some (at from)) (option_map at later) ≡ option_map at (cond b (Some from) later)
+first_branch at true from later = refl
+first_branch at false from later = refl
 
-first_branch : (b : Bool) (from : ℕ) (later : Option ℕ) → cond b (Some (second_at from)) (option_map second_at later) ≡ option_map second_at (cond b (Some from) later)
-first_branch true from later = refl
-first_branch false from later = refl
-
-first_of-number : (p : ℤ → Bool) (from n : ℕ) → first_of p (second_at from) n ≡ option_map second_at (first_number (λ k. p (second_at k)) from n)
+first_of-along : (at : ℕ → ℤ) → ((n : ℕ) → at n +ℤ pos 1 ≡ at (n + 1)) → (p : ℤ → Bool) (from n : ℕ)
+    → first_of p (at from) n ≡ option_map at (first_number (λ k. p (at k)) from n)
 unfolding first_of first_number
-first_of-number p from zero = refl
-first_of-number p from (suc n) =
-    ap (λ z. cond (p (second_at from)) (Some (second_at from)) (first_of p z n)) (one_on from)
-    ∙ ap (λ r. cond (p (second_at from)) (Some (second_at from)) r) (first_of-number p (from + 1) n)
-    ∙ first_branch (p (second_at from)) from (first_number (λ k. p (second_at k)) (from + 1) n)
+first_of-along at on p from zero = refl
+first_of-along at on p from (suc n) =
+    ap (λ z. cond (p (at from)) (Some (at from)) (first_of p z n)) (on from)
+    ∙ ap (λ r. cond (p (at from)) (Some (at from)) r) (first_of-along at on p (from + 1) n)
+    ∙ first_branch at (p (at from)) from (first_number (λ k. p (at k)) (from + 1) n)
+
+second_on : (n : ℕ) → second_at n +ℤ pos 1 ≡ second_at (n + 1)
+second_on n = omega (arith, signed_arith)
+
+pos_on : (n : ℕ) → pos n +ℤ pos 1 ≡ pos (n + 1)
+pos_on n = omega (arith, signed_arith)
 
 abbrev pub end : ℕ
 end = 315569520000
@@ -219,7 +223,7 @@ pub first_from-is : (s : Schedule) (n : ℕ) (r : Option ℕ) → n ≤ end → 
 unfolding first_from
 first_from-is s n r small h bound =
     ap (option_map second_at) (first_of_one _ _ _ _ _ (told_first s n r small h bound) (first_number-is (λ k. is_in s (second_at k)) n (end - n)))
-    ∙ sym (first_of-number (is_in s) n (end - n))
+    ∙ sym (first_of-along second_at second_on (is_in s) n (end - n))
     ∙ ap (first_of (is_in s) (second_at n)) (sym (steps n small))
 
 -- a second of the clock, seen from the year 0 on
@@ -231,19 +235,48 @@ within_end x low high =
     let same = back x low in
     omega (arith, signed_arith, same, low, high)
 
-not_before : (p : ℤ → Bool) (m n : ℕ) → option_map pos (option_map unsigned_abs (first_of p (pos m) n)) ≡ first_of p (pos m) n
-unfolding first_of
-not_before p m zero = refl
-not_before p m (suc n) = branch (p (pos m)) (first_of p (pos m +ℤ pos 1) n) (let on : pos (m + 1) ≡ pos m +ℤ pos 1 = omega (arith, signed_arith) in subst (λ (z : ℤ). option_map pos (option_map unsigned_abs (first_of p z n)) ≡ first_of p z n) on (not_before p (m + 1) n))
-  where
-    branch : (b : Bool) (r : Option ℤ) → option_map pos (option_map unsigned_abs r) ≡ r → option_map pos (option_map unsigned_abs (cond b (Some (pos m)) r)) ≡ cond b (Some (pos m)) r
-    branch true r e = refl
-    branch false r e = e
+back_map : (r : Option ℕ) → option_map unsigned_abs (option_map pos r) ≡ r
+back_map None = refl
+back_map (Some n) = refl
 
 -- a second after one that isn't before 1970 isn't either
+later_steps : ℕ → ℕ
+later_steps x = unsigned_abs (pos (last_second + 1) -ℤ pos (x + 1))
+
+next-number : (s : Schedule) (x : ℕ) → next s x ≡ first_number (λ k. is_in s (pos k)) (x + 1) (later_steps x)
+unfolding next first_from later_steps
+next-number s x = ap (option_map unsigned_abs) (first_of-along pos pos_on (is_in s) (x + 1) (later_steps x)) ∙ back_map _
+
 pub next-is : (s : Schedule) (x : ℕ) → option_map pos (next s x) ≡ first_from s (pos (x + 1))
-unfolding next first_from
-next-is s x = not_before (is_in s) (x + 1) (unsigned_abs (pos (last_second + 1) -ℤ pos (x + 1)))
+unfolding first_from later_steps
+next-is s x = ap (option_map pos) (next-number s x) ∙ sym (first_of-along pos pos_on (is_in s) (x + 1) (later_steps x))
+
+not_true : (b : Bool) → ¬ (b ≡ true) → b ≡ false
+not_true true h = absurd (h refl)
+not_true false h = refl
+
+told_next : (s : Schedule) (x : ℕ) (r : Option ℕ) → x ≤ last_second → IsFirstOf (λ k. is_in s (pos k)) (x + 1) (last_second - x) r → IsNext s x r
+told_next s x None small h = λ k low high. not_true (is_in s (pos k)) (h k (omega arith) (omega arith))
+told_next s x (Some n) small h = (
+  omega (arith, h.0),
+  omega (arith, h.1),
+  h.2,
+  λ k low high. not_true (is_in s (pos k)) (h.3 k (omega arith) high),
+)
+
+count_later : (x : ℕ) → x ≤ last_second → later_steps x ≡ last_second - x
+unfolding later_steps
+count_later x small =
+    let same : pos (last_second + 1) -ℤ pos (x + 1) ≡ pos (last_second - x) = omega (arith, signed_arith) in
+    ap unsigned_abs same
+
+-- and it is the least one
+pub next-least : (s : Schedule) (x : ℕ) → x ≤ last_second → IsNext s x (next s x)
+next-least s x small =
+    let number : next s x ≡ first_number (λ k. is_in s (pos k)) (x + 1) (last_second - x) =
+    next-number s x ∙ ap (first_number (λ k. is_in s (pos k)) (x + 1)) (count_later x small) in
+    subst (λ (r : Option ℕ). IsNext s x r) (sym number)
+    (told_next s x _ small (first_number-is (λ k. is_in s (pos k)) (x + 1) (last_second - x)))
 
 -- numbers of this size come back from their bits
 pub second_back : (k : ℕ) → k ≤ 315569519999 → to_z w64 (of_z w64 (second_at k)) ≡ second_at k
@@ -252,3 +285,7 @@ second_back k small = back_small w64 (second_at k) (omega (arith, signed_arith, 
 pub later_back : (x : ℤ) → pos 0 ≤ℤ x → x ≤ℤ pos 253402300799 → to_z w64 (of_z w64 (x +ℤ pos 1)) ≡ pos (unsigned_abs x + 1)
 later_back (pos n) low high = back_small w64 (pos (n + 1)) (omega (arith, signed_arith, high))
 later_back (negsuc n) low high = absurd (omega (arith, signed_arith, low))
+
+pub abs_within : (x : ℤ) → pos 0 ≤ℤ x → x ≤ℤ pos 253402300799 → unsigned_abs x ≤ last_second
+abs_within (pos n) low high = omega (arith, signed_arith, high)
+abs_within (negsuc n) low high = absurd (omega (arith, signed_arith, low))

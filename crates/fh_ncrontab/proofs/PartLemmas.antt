@@ -2,8 +2,9 @@
 use Rattle.std.proofs.Common.{◌≡◌, ℕ, ◌+◌, ◌-◌, ◌%◌, ◌<◌, ◌≤◌, List, [], ◌∷◌, length, length-drop, cond, Some, None, Ok, Err, inl, inr, ◌⊎◌, ◌≢◌, Bool, true, false, ◌&&◌, ◌||◌, nat_eq, nat_lt, refl, sym, ap, ◌∙◌, arith}
 use Rattle.std.proofs.lemmas.Bool.Decides.{nat_tests}
 use Rattle.fh_ncrontab.specs.declared.part.Part.{Part}
-use Rattle.std.specs.List.{position_or_len, before_first, after_first, slice_split, onto_first}
-use Rattle.std.proofs.lemmas.List.Splits.{slice_split_first, slice_split-cons_no}
+use Rattle.std.specs.List.{position_or_len, before_first, after_first}
+use Rattle.std.proofs.lemmas.List.Splits.{slice_split_first, slice_split_none}
+use Rattle.std.proofs.lemmas.List.Sums.{fails_before_first}
 use Rattle.fh_ncrontab.specs.Fields.{part_of, part_has, result_has, fault_or, first_fault, some_part_has, cut_at, pieces}
 use Rattle.fh_ncrontab.specs.declared.fault.FieldFault.{FieldFault}
 use Rattle.fh_ncrontab.specs.Sets.{holds}
@@ -41,21 +42,12 @@ pieces-cut c text before after is =
       rw is_after (omega (arith, length-drop (position_or_len (λ b. nat_eq b c) text + 1) text)),
     )
 
-first_fails : (p : ℕ → Bool) (x : ℕ) (xs : List ℕ) → length (x ∷ xs) ≤ position_or_len p (x ∷ xs) → (p x ≡ false) × (length xs ≤ position_or_len p xs)
-first_fails p x xs h = grind arith
-
-split-whole : (p : ℕ → Bool) (xs : List ℕ) → length xs ≤ position_or_len p xs → slice_split p xs ≡ xs ∷ []
-split-whole p [] h = refl
-split-whole p (x ∷ xs) h =
-    let first = first_fails p x xs h in
-    slice_split-cons_no p x xs first.0 ∙ ap (onto_first x) (split-whole p xs first.1)
-
 -- and where it doesn't
 pub pieces-whole : (c : ℕ) (text : List ℕ) → None ≡ cut_at c text → pieces c text ≡ text ∷ []
 pieces-whole c text is =
     let test : nat_lt (position_or_len (λ b. nat_eq b c) text) (length text) ≡ false = uncut_told _ _ is in
     let past : length text ≤ position_or_len (λ b. nat_eq b c) text = grind (arith, nat_tests) in
-    split-whole (λ b. nat_eq b c) text past
+    slice_split_none (λ b. nat_eq b c) text (λ k d lt. fails_before_first (λ b. nat_eq b c) text k d (omega arith))
 
 -- a part that is read has no fault, and its numbers
 pub first_fault-ok : (lo hi : ℕ) (p : Part) (part : List ℕ) (more : List (List ℕ)) → Ok p ≡ part_of lo hi part → first_fault lo hi (part ∷ more) ≡ first_fault lo hi more

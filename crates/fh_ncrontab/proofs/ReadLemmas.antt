@@ -1,5 +1,5 @@
 -- What a text reads as, once its fields are counted and judged.
-use Rattle.std.proofs.Common.{◌≡◌, ◌≢◌, ℕ, List, length, Bool, true, false, ◌||◌, nat_eq, cond, Option, Some, None, Ok, Err, sym, ap, ◌∙◌, arith, pos}
+use Rattle.std.proofs.Common.{◌≡◌, ◌≢◌, ℕ, List, length, Bool, true, false, ◌||◌, nat_eq, cond, Some, None, Ok, Err, sym, ap, ◌∙◌, arith, pos}
 use Rattle.std.specs.Option.{is_some}
 use Rattle.std.proofs.lemmas.Bool.Decides.{nat_tests}
 use Rattle.fh_ncrontab.specs.declared.fault.CronFault.{CronFault}

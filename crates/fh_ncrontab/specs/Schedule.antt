@@ -1,6 +1,6 @@
 -- When a schedule runs. Days are counted from 1970-01-01 and seconds from its midnight, and both are
 -- negative before it. A second is one of a civil date and time: in UTC, or where a clock says otherwise.
-use Rattle.std.specs.Prelude.{ℕ, zero, suc, ◌+◌, ◌/◌, ◌%◌, nat_le, Bool, false, ◌&&◌, ◌||◌, if◌then◌else◌, List, [], ◌∷◌, slice_index, Option, None, Some, option_map, ℤ, pos, ◌+ℤ◌, ◌-ℤ◌, unsigned_abs}
+use Rattle.std.specs.Prelude.{◌≡◌, ℕ, zero, suc, ◌+◌, ◌/◌, ◌%◌, ◌<◌, ◌≤◌, nat_le, Bool, true, false, ◌&&◌, ◌||◌, if◌then◌else◌, List, [], ◌∷◌, slice_index, Option, None, Some, option_map, ℤ, pos, ◌+ℤ◌, ◌-ℤ◌, unsigned_abs}
 use Rattle.std.specs.Int.{int_div_euclid, int_rem_euclid}
 use Rattle.std.specs.Ordering.{int_eq}
 use Rattle.jiff_core.specs.Calendar.{days_from_civil, days_in_month, weekday_number}
@@ -52,6 +52,13 @@ first_from s x = first_of (is_in s) x (unsigned_abs (pos (last_second + 1) -ℤ 
 -- the least second of the schedule after x, which isn't before 1970
 unfoldable pub next : Schedule → ℕ → Option ℕ
 next s x = option_map unsigned_abs (first_from s (pos (x + 1)))
+
+-- the same as a fact: the second is in the schedule, and no other after x and before it is
+abbrev pub IsNext : Schedule → ℕ → Option ℕ → Type 0
+IsNext s x None = (k : ℕ) → x < k → k ≤ last_second → is_in s (pos k) ≡ false
+IsNext s x (Some n) =
+    (x < n) × (n ≤ last_second) × (is_in s (pos n) ≡ true)
+    × ((k : ℕ) → x < k → k < n → is_in s (pos k) ≡ false)
 
 -- the sets as masks, in the order of the fields
 abbrev pub masks_of : Schedule → List ℕ

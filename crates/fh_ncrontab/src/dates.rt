@@ -13,6 +13,9 @@ use jiff_core::civil::Date;
 // The days from 0000-01-01 to 1970-01-01.
 const TO_1970: i64 = 719_528;
 
+// The years after which dates fall on the same days of the week again.
+const CYCLE: u16 = 400;
+
 impl Schedule {
     // The least day of the schedule from that day on, where 0000-01-01 is 0.
     pub(crate) fn day_from(&self, day: u64) -> Option<u64>
@@ -29,7 +32,8 @@ impl Schedule {
         Some(day_number(date))
     }
 
-    // The least date of the schedule from a date of the calendar on.
+    // The least date of the schedule from a date of the calendar on. The calendar repeats after 400
+    // years, so a schedule that has no date in as many has none at all.
     fn date_from(&self, year: u16, month: u8, day: u8) -> Option<Date>
         requires year { year ≤ 9999 }
         requires month { IsInRange 1 12 month }
@@ -44,7 +48,8 @@ impl Schedule {
         if let Some(date) = self.date_in_year(year, month + 1) {
             return Some(date);
         }
-        for year in year + 1..10000 {
+        let last = (year + CYCLE + 1).min(10000);
+        for year in year + 1..last {
             if let Some(date) = self.date_in_year(year, 1) {
                 return Some(date);
             }

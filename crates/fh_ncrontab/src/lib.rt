@@ -6,11 +6,14 @@
 //! - `Schedule::read` gives the sets of a text, or the one fault that decides: the count of fields,
 //!   then the first faulty part from the left, then that no second is ever in the schedule.
 //! - `next_after` gives the least second of the schedule after another, up to the end of the year
-//!   9999, and `None` exactly where there is none.
-//! - `masks` and `of_masks` carry the sets to and from six numbers, and are inverse to each other.
+//!   9999, and `None` exactly where there is none; `first_from` the least from a second on, on any
+//!   civil clock from the year 0 on.
+//! - `masks` and `of_masks` carry the sets to and from six numbers, and are inverse to each other;
+//!   `Field::mask` and `Field::of_mask` do so for one set.
 //!
-//! No call takes memory. `specs/` has the meaning: `Texts`, `Fields` and `Names` of a text,
-//! `Schedule` and `Dates` of the sets.
+//! No call takes memory. Each answer is that of a function in `specs/`, and `Schedule` is the file to
+//! read first: `schedule_of` of a text (`Texts`, `Fields`, `Names`), `next` and `first_from`
+//! (`Schedule`), `is_mask` (`Sets`). `Search`, `Dates` and `Pieces` are for private functions alone.
 #![tactic(auto)]
 
 mod dates;

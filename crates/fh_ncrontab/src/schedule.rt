@@ -1,5 +1,5 @@
 ghost use Rattle.std.specs.Prelude.{◌≡◌, ◌≤◌, ◌||◌, ◌==◌, length, true, false, pos, neg_ℤ, ◌≤ℤ◌, ◌+ℤ◌, ◌-ℤ◌, unsigned_abs, option_map, IsTrue, IfSome, IfOk, IfErr, None, MatchOption};
-ghost use Rattle.fh_ncrontab.specs.Schedule.{first_from, next, masks_of, are_masks, with_masks};
+ghost use Rattle.fh_ncrontab.specs.Schedule.{first_from, next, IsNext, masks_of, are_masks, with_masks};
 ghost use Rattle.fh_ncrontab.specs.Texts.{words, field_fault, sets_of, schedule_of};
 
 use crate::text::{count_words, read_field};
@@ -101,7 +101,10 @@ impl Schedule {
     pub fn next_after(&self, second: i64) -> Option<i64>
         requires low { pos 0 ≤ℤ second }
         requires high { second ≤ℤ pos 253402300799 }
-        ensures { result ≡ option_map pos (next self.now (unsigned_abs second)) }
+        ensures exact { result ≡ option_map pos (next self.now (unsigned_abs second)) }
+
+        // That is the least second after it.
+        ensures least { IsNext self.now (unsigned_abs second) (next self.now (unsigned_abs second)) }
     {
         self.first_from(second + 1)
     }

@@ -1,4 +1,4 @@
-use Rattle.std.proofs.Common.{◌≡◌, ℕ, ◌<◌, ◌^◌, ◌||◌, false, Ok, refl, arith, sym, ap, ◌∙◌, option_copied}
+use Rattle.std.proofs.Common.{◌≡◌, ℕ, ◌||◌, false, Ok, refl, arith, sym, ap, ◌∙◌, option_copied}
 use Rattle.std.proofs.lemmas.Result.{err_from_is_err_and}
 use Rattle.fh_ncrontab.specs.Sets.{holds}
 use Rattle.fh_ncrontab.specs.Fields.{first_fault, some_part_has, parts, set_or, numbers_of}
