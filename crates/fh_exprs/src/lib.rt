@@ -31,7 +31,7 @@ pub use pairs::Pairs;
 pub use pattern::Pattern;
 pub use settings::Settings;
 pub use template::Template;
-pub use values::Values;
+pub use values::{Values, member_of};
 
 #[cfg(test)]
 mod tests;

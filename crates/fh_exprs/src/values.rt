@@ -64,7 +64,9 @@ impl Values {
     }
 }
 
-fn member_of<'v>(message: &'v Value, name: &str) -> Option<&'v Value>
+/// The value at a path in a JSON value: the names of members with dots between them. A value on the way
+/// that is no object has no members.
+pub fn member_of<'v>(message: &'v Value, name: &str) -> Option<&'v Value>
     ensures { option_map (λ v. view v.now) result
         ≡ member_at (slice_split (λ b. b == dot) name.now) (view message.now) }
 {

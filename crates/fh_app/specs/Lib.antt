@@ -1,0 +1,10 @@
+pub mod Answers
+pub mod Kinds
+pub mod Rows
+pub mod Host
+pub mod Settings
+pub mod Bindings
+pub mod Functions
+pub mod App
+pub mod Folders
+pub mod Check
