@@ -1,19 +1,21 @@
-//! `fnhost`: makes the real objects, and hands the words of the command line to the top call.
+//! `fnhost`: makes the real objects, and hands the words of the command line to the top call of its command.
 //!
-//! Promised: the words are the arguments behind the program's name; the second names the journal's file, and
-//! the third that of the checkpoint. The exit status is the top call's, unless something is missing before
-//! it: 9 where memory is refused, 6 where the null device can't be opened. What the command does is the
-//! contract of `fh_script::script`, over a source, a sink and disks that tell nothing. No file is opened
-//! before the descriptors of the three standard streams are taken, so none can stand for a stream that was
-//! closed.
+//! Promised: the words are the arguments behind the program's name. Those of a script name the journal's file
+//! and the checkpoint's, that of a check the app's folder. The exit status is the top call's, unless
+//! something is missing before it: 9 where memory is refused, 6 where the null device can't be opened. What
+//! a command does is the contract of `fh_script::script` or `fh_app::check`, over objects that tell nothing.
+//! No file is opened before the descriptors of the three standard streams are taken, so none can stand for a
+//! stream that was closed.
 #![tactic(auto)]
 
 ghost use Rattle.std.specs.Prelude.{◌≡◌, ◌≢◌, ◌==◌, [], not, drop, slice_get, IfOk, IfErr, OnErr, IsErr, string_bytes};
 ghost use Rattle.std.specs.Process.{exit_status};
 ghost use Rattle.fh_script.specs.Script.{is_script};
-ghost use Rattle.fnhost.specs.Words.{path_of};
+ghost use Rattle.fh_app.specs.Check.{is_check as is_check_lem};
+ghost use Rattle.fnhost.specs.Words.{is_command, path_of};
 ghost use Rattle.fnhost.specs.Ends.{unready_code};
 
+use fh_app::{PathFolder, check, is_check};
 use fh_base::{NoMemory, Sink, Source, Status, StreamSink, StreamSource};
 use fh_disk::FileDisk;
 use fh_script::script;
@@ -40,9 +42,9 @@ struct HeldStreams {
     _third: File,
 }
 
-/// The files that a command works on.
+/// The files that a script works on.
 #[derive(Drop)]
-struct CommandFiles {
+struct ScriptFiles {
     journal: FileDisk<HostRuntime>,
     checkpoint: FileDisk<HostRuntime>,
 }
@@ -123,6 +125,38 @@ fn behind_the_name(arguments: &[String]) -> &[String]
 
 // Runs the command of the words over the real objects.
 fn run(rt: &HostRuntime, alloc: Global, words: &[String]) -> Result<Status, NoMemory>
+    ensures usage { IfOk result (λ status. (status.code == 2) ≡ not (is_command words.now)) }
+{
+    if is_check(words) {
+        run_check(rt, alloc, words)
+    } else {
+        run_script(rt, alloc, words)
+    }
+}
+
+fn run_check(rt: &HostRuntime, alloc: Global, words: &[String]) -> Result<Status, NoMemory>
+    ensures usage { IfOk result (λ status. (status.code == 2) ≡ not (is_check_lem words.now)) }
+{
+    let mut sink = StreamSink::new(io::writer(rt));
+    let mut folder = folder_of(rt, alloc, words)?;
+    Ok(list(alloc, words, &mut folder, &mut sink))
+}
+
+// Lists the app in the folder that the words name.
+fn list<O: Sink>(
+    alloc: Global,
+    words: &[String],
+    folder: &mut PathFolder<HostRuntime>,
+    sink: &mut O,
+) -> Status
+    requires { string_bytes folder.old.path ≡ path_of (slice_get words.now 1) }
+    ensures usage { (result.code == 2) ≡ not (is_check_lem words.now) }
+    ensures unasked { result.code ≡ 2 → folder.new ≡ folder.old }
+{
+    check(alloc, words, folder, sink)
+}
+
+fn run_script(rt: &HostRuntime, alloc: Global, words: &[String]) -> Result<Status, NoMemory>
     ensures usage { IfOk result (λ status. (status.code == 2) ≡ not (is_script words.now)) }
 {
     let Ok(mut source) = StreamSource::new(alloc, rt.stdin()) else {
@@ -133,13 +167,13 @@ fn run(rt: &HostRuntime, alloc: Global, words: &[String]) -> Result<Status, NoMe
     Ok(answer(alloc, words, &mut source, &mut sink, &mut files))
 }
 
-// Runs a command over the files that its words name.
+// Runs a script over the files that its words name.
 fn answer<S: Source, O: Sink>(
     alloc: Global,
     words: &[String],
     source: &mut S,
     sink: &mut O,
-    files: &mut CommandFiles,
+    files: &mut ScriptFiles,
 ) -> Status
     requires journal { string_bytes files.old.journal.path ≡ path_of (slice_get words.now 1) }
     requires checkpoint { string_bytes files.old.checkpoint.path ≡ path_of (slice_get words.now 2) }
@@ -147,21 +181,31 @@ fn answer<S: Source, O: Sink>(
     ensures unasked { result.code ≡ 2 → files.new ≡ files.old }
     ensures checkpoint { files.new.checkpoint ≡ files.old.checkpoint }
 {
-    let CommandFiles {
+    let ScriptFiles {
         journal,
         checkpoint,
     } = files;
     script(alloc, words, source, sink, journal, checkpoint)
 }
 
-fn files_of(rt: &HostRuntime, alloc: Global, words: &[String]) -> Result<CommandFiles, NoMemory>
+fn files_of(rt: &HostRuntime, alloc: Global, words: &[String]) -> Result<ScriptFiles, NoMemory>
     ensures journal { IfOk result (λ files. string_bytes files.journal.path ≡ path_of (slice_get words.now 1)) }
     ensures checkpoint { IfOk result (λ files. string_bytes files.checkpoint.path ≡ path_of (slice_get words.now 2)) }
 {
-    Ok(CommandFiles {
+    Ok(ScriptFiles {
         journal: file_of(rt, alloc, words, 1)?,
         checkpoint: file_of(rt, alloc, words, 2)?,
     })
+}
+
+fn folder_of(
+    rt: &HostRuntime,
+    alloc: Global,
+    words: &[String],
+) -> Result<PathFolder<HostRuntime>, NoMemory>
+    ensures path { IfOk result (λ folder. string_bytes folder.path ≡ path_of (slice_get words.now 1)) }
+{
+    Ok(PathFolder::new(*rt, path_of(alloc, words, 1)?))
 }
 
 // The file that a word names, which isn't opened yet.
@@ -173,11 +217,17 @@ fn file_of(
 ) -> Result<FileDisk<HostRuntime>, NoMemory>
     ensures path { IfOk result (λ file. string_bytes file.path ≡ path_of (slice_get words.now place)) }
 {
+    Ok(FileDisk::new(*rt, path_of(alloc, words, place)?))
+}
+
+fn path_of(alloc: Global, words: &[String], place: usize) -> Result<String, NoMemory>
+    ensures { IfOk result (λ path. string_bytes path ≡ path_of (slice_get words.now place)) }
+{
     let path = match words.get(place) {
         Some(word) => word.clone()?,
         None => String::new(alloc),
     };
-    Ok(FileDisk::new(*rt, path))
+    Ok(path)
 }
 
 impl From<NoMemory> for Unready {
