@@ -162,7 +162,7 @@ is_truth value = is_some (as_bool value)
 abbrev pub timer_rows : List ℕ → ℕ → Data → Result ⊤ AppFault
 timer_rows file place binding =
     after (needed file (label place (codes "schedule"))
-      (option_map (λ value. is_some (schedule_in value)) (get (codes "schedule") binding))) (λ _.
+    (option_map (λ value. is_some (schedule_in value)) (get (codes "schedule") binding))) (λ _.
     after (allowed file (label place (codes "runOnStartup")) (option_map is_truth (get (codes "runOnStartup") binding))) (λ _.
     allowed file (label place (codes "useMonitor")) (option_map is_truth (get (codes "useMonitor") binding))))
 

@@ -41,7 +41,7 @@ is_same_name one other = bytes_eq (map to_ascii_lowercase one) (map to_ascii_low
 abbrev pub name_row : List Function → List ℕ → Result ⊤ AppFault
 name_row before name =
     if is_plain_name name then
-      (if list_any (λ (f : Function). is_same_name f.name name) before then Err (SameName name) else Ok tt)
+    (if list_any (λ (f : Function). is_same_name f.name name) before then Err (SameName name) else Ok tt)
     else Err (BadFunctionName name)
 
 abbrev pub list_row : List ℕ → Option Data → Result (List Data) AppFault

@@ -7,7 +7,9 @@ ghost use Rattle.fh_app.specs.Functions.{json_of as json_of_lem, json_row, file_
 ghost use Rattle.fh_app.specs.App.{host_in, settings_in, app_of};
 
 use crate::bindings::Table;
-use crate::fault::{AppFault, bad_function_name, bad_value, missing, not_json, same_name, trigger_count};
+use crate::fault::{
+    AppFault, bad_function_name, bad_value, missing, not_json, same_name, trigger_count,
+};
 use crate::function::{Bindings, Function, Functions};
 use crate::host::{Handler, Host, QueueSettings, read_host};
 use crate::rows::File;
@@ -15,7 +17,6 @@ use crate::settings::read_settings;
 use crate::targets::{first_trigger, outputs_in};
 use fh_base::{Bytes, NoMemory, PlainName, Text, utf8_text};
 use fh_exprs::Settings;
-
 use serde_json::{Category, Map, Value};
 use std::alloc::Global;
 use std::marker::Model;

@@ -131,12 +131,7 @@ impl Table<'_> {
     }
 }
 
-fn object_row(
-    alloc: Global,
-    file: &str,
-    place: usize,
-    binding: &Value,
-) -> Result<(), AppFault>
+fn object_row(alloc: Global, file: &str, place: usize, binding: &Value) -> Result<(), AppFault>
     ensures { Answers result (object_row_lem file.now place (view binding.now)) }
 {
     match binding.as_object() {
@@ -155,12 +150,7 @@ fn type_row(alloc: Global, file: &str, place: usize, binding: &Value) -> Result<
     needed(alloc, file, place, "type", passes)
 }
 
-fn direction_row(
-    alloc: Global,
-    file: &str,
-    place: usize,
-    binding: &Value,
-) -> Result<(), AppFault>
+fn direction_row(alloc: Global, file: &str, place: usize, binding: &Value) -> Result<(), AppFault>
     ensures { Answers result (direction_row_lem file.now place (view binding.now)) }
 {
     let passes = match binding.get("direction") {
@@ -188,7 +178,14 @@ fn queue_row(
 {
     match type_of(binding) {
         Some(BindingType::QueueTrigger) => queue_name_row(alloc, settings, file, place, binding),
-        Some(BindingType::Queue) => template_row(alloc, settings, file, place, binding, "queueName"),
+        Some(BindingType::Queue) => template_row(
+            alloc,
+            settings,
+            file,
+            place,
+            binding,
+            "queueName",
+        ),
         _ => Ok(()),
     }
 }
@@ -274,12 +271,7 @@ fn timer_row(alloc: Global, file: &str, place: usize, binding: &Value) -> Result
     }
 }
 
-fn timer_rows(
-    alloc: Global,
-    file: &str,
-    place: usize,
-    binding: &Value,
-) -> Result<(), AppFault>
+fn timer_rows(alloc: Global, file: &str, place: usize, binding: &Value) -> Result<(), AppFault>
     ensures { Answers result (timer_rows_lem file.now place (view binding.now)) }
 {
     let passes = match binding.get("schedule") {

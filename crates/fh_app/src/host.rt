@@ -122,10 +122,22 @@ fn read_queue_settings(alloc: Global, root: &Value) -> Result<QueueSettings, App
         root,
     };
     let batch = host.number(alloc, "extensions.queues.batchSize", 1, 32, 16)?;
-    let threshold = host.number(alloc, "extensions.queues.newBatchThreshold", 0, 1000, batch / 2)?;
+    let threshold = host.number(
+        alloc,
+        "extensions.queues.newBatchThreshold",
+        0,
+        1000,
+        batch / 2,
+    )?;
     let limit = host.number(alloc, "extensions.queues.maxDequeueCount", 1, 1000, 5)?;
     let retry = host.duration(alloc, "extensions.queues.visibilityTimeout", 0, WEEK, 0)?;
-    let polling = host.duration(alloc, "extensions.queues.maxPollingInterval", 0, u64::MAX, 60000)?;
+    let polling = host.duration(
+        alloc,
+        "extensions.queues.maxPollingInterval",
+        0,
+        u64::MAX,
+        60000,
+    )?;
     let base64 = host.encoding(alloc, "extensions.queues.messageEncoding")?;
     Ok(QueueSettings {
         batch,

@@ -28,7 +28,11 @@ pub(crate) fn number_in(value: &Value, least: u64, most: u64) -> Option<u64>
     ensures { result ≡ number_in_lem least most (view value.now) }
 {
     let number = value.as_u64()?;
-    if least <= number && number <= most { Some(number) } else { None }
+    if least <= number && number <= most {
+        Some(number)
+    } else {
+        None
+    }
 }
 
 pub(crate) fn encoding(value: &Value) -> Option<bool>
@@ -56,5 +60,9 @@ pub(crate) fn duration_in(value: &Value, least: u64, most: u64) -> Option<u64>
 {
     let text = value.as_str()?;
     let length = read_duration(text)?;
-    if least <= length && length <= most { Some(length) } else { None }
+    if least <= length && length <= most {
+        Some(length)
+    } else {
+        None
+    }
 }

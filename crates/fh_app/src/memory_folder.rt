@@ -60,11 +60,7 @@ fn insert_folder(alloc: Global, names: &mut Vec<Text>, path: &str) -> Result<(),
     }
 }
 
-fn bytes_at(
-    alloc: Global,
-    files: &[(Text, Bytes)],
-    path: &str,
-) -> Result<Option<Bytes>, NoMemory>
+fn bytes_at(alloc: Global, files: &[(Text, Bytes)], path: &str) -> Result<Option<Bytes>, NoMemory>
     ensures { IfOk result (λ bytes. bytes ≡ text_at path.now files.now) }
 {
     for file in files {

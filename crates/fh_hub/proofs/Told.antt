@@ -225,10 +225,10 @@ module _ (events : List Event) (w : World) (command : Command) (now : ℕ) (new 
   seen_unborn n is was =
       elim (told.new n) [
         | inl nothing ↦ subst (IsSeenBy n more new.last) (sym nothing.0) (
-            births_push n ∙ ap (λ b. births n events + (if b then 1 else 0)) nothing.1 ∙ ap (λ k. k + 0) was.0,
-            unheld,
-            not_removed n was.2 none.1,
-          )
+          births_push n ∙ ap (λ b. births n events + (if b then 1 else 0)) nothing.1 ∙ ap (λ k. k + 0) was.0,
+          unheld,
+          not_removed n was.2 none.1,
+        )
         | inr one ↦ subst (IsSeenBy n more new.last) (sym one.1.comes) (first one.0 one.1)
       ]
     where
