@@ -395,6 +395,37 @@ fn keeps_the_queues(
     Ok(())
 }
 
+// Queues with one message that is held.
+fn hold_one(rt: &(impl Abort + AllocGlobal), queues: &mut Queues) -> Result<(), Fail>
+    requires { IsIdle queues.old }
+    ensures { IsIdle queues.new }
+{
+    let start = moment(0)?;
+    answer(rt, queues, &Step::Make, start)?;
+    answer(rt, queues, &PUT_HI, start)?;
+    answer(rt, queues, &TAKE_ONE, start)?;
+    Ok(())
+}
+
+// Lets an ask of each kind go.
+fn let_each_go(rt: &(impl Abort + AllocGlobal), queues: &mut Queues) -> Result<(), Fail>
+    requires { IsIdle queues.old }
+    ensures { IsIdle queues.new }
+{
+    let text = Text::from_str(rt.alloc(), "a")?;
+    let update = Step::Update {
+        receipt: 2,
+        hold: 30,
+        text: "a",
+    };
+    let delete = Step::Delete { receipt: 2 };
+    for step in &[TAKE_ONE, update, delete, Step::Clear, Step::Sweep] {
+        let ask = ask_of(orders()?, step, &text);
+        keeps_the_queues(rt, queues, &ask)?;
+    }
+    Ok(())
+}
+
 #[test]
 fn what_is_let_go_leaves_the_queues(rt: HostRuntime) -> Result<(), Fail> {
     let text = Text::from_str(rt.alloc(), "a")?;
@@ -403,19 +434,16 @@ fn what_is_let_go_leaves_the_queues(rt: HostRuntime) -> Result<(), Fail> {
     let mut queues = Queues::new(rt.alloc());
     let_go(&rt, &mut queues, &QueueAsk::Make { queue: other }, start)?;
     assert!(rt; !queues.has_queue(&other));
-    for step in &[Step::Make, PUT_HI, TAKE_ONE] {
-        answer(&rt, &mut queues, step, start)?;
-    }
-    let update = Step::Update {
-        receipt: 2,
-        hold: 30,
-        text: "a",
+    hold_one(&rt, &mut queues)?;
+    let put = QueueAsk::Put {
+        queue: orders()?,
+        delay: 0,
+        ttl: None,
+        text: &text,
+        about: None,
     };
-    let delete = Step::Delete { receipt: 2 };
-    for step in &[PUT_HI, TAKE_ONE, update, delete, Step::Clear, Step::Sweep] {
-        let ask = ask_of(orders()?, step, &text);
-        keeps_the_queues(&rt, &mut queues, &ask)?;
-    }
+    keeps_the_queues(&rt, &mut queues, &put)?;
+    let_each_go(&rt, &mut queues)?;
     keeps_the_queues(&rt, &mut queues, &QueueAsk::Make { queue: other })?;
     assert!(rt; !queues.has_queue(&other));
     let next = answer(&rt, &mut queues, &PUT_HI, start)?;
