@@ -136,7 +136,7 @@ fn assert_calls(rt: &impl Abort, calls: &[Call], expected: &[Option<(u64, &[u8])
         match (call, wanted) {
             (Call::Write { at, bytes }, Some((place, piece))) => {
                 assert_eq!(rt; *at, *place);
-                assert_eq!(rt; bytes.as_bytes(), *piece);
+                assert_eq!(rt; bytes.as_slice(), *piece);
             }
             (Call::Sync, None) => {}
             _ => assert!(rt; false),
