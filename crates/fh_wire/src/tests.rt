@@ -1,5 +1,7 @@
+ghost use Rattle.std.specs.Prelude.{◌≤◌, None, true, length};
+
 use super::*;
-use fh_base::{Bytes, Failing, FaultPlan, MemorySink, MemorySource};
+use fh_base::{Bytes, Failed, Failing, FaultPlan, MemorySink, MemorySource, Source};
 use std::alloc::Global;
 use std::test::Fail;
 
@@ -238,6 +240,51 @@ fn heads_at_their_limits(rt: HostRuntime) -> Result<(), Fail> {
         let mut text = request_of(rt.alloc(), fields, size)?;
         text.extend_from_slice(behind)?;
         assert_eq!(rt; request(&rt, text.as_slice())?.as_str(), wanted);
+    }
+    Ok(())
+}
+
+// Bytes in memory that come one at a time. It tells nothing of them.
+#[derive(Drop)]
+struct OneByOne<'a> {
+    left: &'a [u8],
+}
+
+impl<'a> Source for OneByOne<'a> {
+    ghost left = { λ s. None };
+
+    ghost most = { λ s. length s.left.now };
+
+    ghost read_faults = { λ s. 0 };
+
+    ghost reads_surely = { λ s. true };
+
+    ghost beside_reading = { λ s. (None, 0, true) };
+
+    fn read(&mut self, buf: &mut [u8]) -> Result<usize, Failed> {
+        let size = buf.len().min(self.left.len()).min(1);
+        let (given, left) = self.left.split_at(size);
+        buf[..size].copy_from_slice(given);
+        self.left = left;
+        Ok(size)
+    }
+}
+
+#[test]
+fn bytes_that_come_one_at_a_time(rt: HostRuntime) -> Result<(), Fail> {
+    let table: [(usize, &[u8], Option<WireFault>); 4] = [
+        (64, b"Content-Length: 2\r\n\r\nhi", Some(WireFault::BadHead)),
+        (63, b"Content-Length: 2\r\n\r\nhi", None),
+        (63, b"Content-Length: 2\r\n\r\nh", Some(cut(1, 2))),
+        (64, b"", Some(cut(400, 0))),
+    ];
+    for (fields, behind, wanted) in table {
+        let mut text = request_of(rt.alloc(), fields, 0)?;
+        text.extend_from_slice(behind)?;
+        let mut source = OneByOne {
+            left: text.as_slice(),
+        };
+        assert_eq!(rt; read_request(rt.alloc(), &mut source).err(), wanted);
     }
     Ok(())
 }
