@@ -9,7 +9,8 @@ use Rattle.std.proofs.lemmas.Nat.{be_bytes_4, be_bytes_8, from_be_bytes-to_be_by
 use Rattle.std.proofs.lemmas.Str.{IsUtf8-from_is_utf8, is_utf8-from_IsUtf8}
 use Rattle.fh_event.specs.declared.faults.EventFault.{EventFault}
 use Rattle.fh_event.specs.declared.faults.EventFault.TheVariants.{ShortField, LongField, BadField}
-use Rattle.fh_event.specs.Fields.{number_bytes, text_bytes, maybe_bytes, text_limit, IsText}
+use Rattle.fh_event.specs.Fields.{number_bytes, text_bytes, maybe_bytes, IsText}
+use Rattle.fh_base.specs.Limits.{longest_payload}
 use Rattle.fh_event.specs.Reading.{number_at, text_of_length, text_at, flag_at, behind_flag, maybe_at}
 use Rattle.fh_event.proofs.Steps.{bind_ok, passed, ended, ok_is, IsBytes, IsBytes-drop, IsBytes-take, IsBytes-rest, Takes, Takes-then, Takes-one}
 
@@ -69,10 +70,10 @@ pub record TakesText (n : ℕ) (bytes text rest : List ℕ) : Type 0 where
 length_takes : (field n : ℕ) (bytes : List ℕ) (x : List ℕ × List ℕ) → IsBytes bytes → text_of_length field n bytes ≡ Ok x
     → TakesText n bytes x.0 x.1
 length_takes field n bytes x fits e =
-    let a = passed (ltb text_limit n) (LongField field) (cond (ltb (length bytes) n) (Err (ShortField field)) (cond (is_utf8 (take n bytes)) (Ok (take n bytes, drop n bytes)) (Err (BadField field)))) x e in
+    let a = passed (ltb longest_payload n) (LongField field) (cond (ltb (length bytes) n) (Err (ShortField field)) (cond (is_utf8 (take n bytes)) (Ok (take n bytes, drop n bytes)) (Err (BadField field)))) x e in
     let b = passed (ltb (length bytes) n) (ShortField field) (cond (is_utf8 (take n bytes)) (Ok (take n bytes, drop n bytes)) (Err (BadField field))) x a.1 in
     let c = ended (is_utf8 (take n bytes)) (BadField field) (take n bytes, drop n bytes) x b.1 in
-    let few : n ≤ text_limit = ltb-false _ _ a.0 in
+    let few : n ≤ longest_payload = ltb-false _ _ a.0 in
     let long : n ≤ length bytes = ltb-false _ _ b.0 in
     let sized : length (take n bytes) ≡ n = omega (arith, length-take n bytes) in
     let whole : TakesText n bytes (take n bytes) (drop n bytes) = record {
@@ -96,7 +97,7 @@ text_takes field bytes x fits e =
 length_again : (field : ℕ) (text rest : List ℕ) → IsText text → text_of_length field (length text) (text ++ rest) ≡ Ok (text, rest)
 length_again field text rest h =
     let short = h.short in
-    let few : ltb text_limit (length text) ≡ false = le-ltb _ _ short in
+    let few : ltb longest_payload (length text) ≡ false = le-ltb _ _ short in
     let long : ltb (length (text ++ rest)) (length text) ≡ false = le-ltb _ _ (omega (arith, length-append text rest)) in
     let utf8 : is_utf8 text ≡ true = is_utf8-from_IsUtf8 text h.utf8 in
     rw (few, long, take_at text rest (length text) refl, drop_at text rest (length text) refl, utf8) refl

@@ -1,7 +1,7 @@
-pub mod Utf8
 pub mod Extending
 pub mod Steps
 pub mod FieldLaws
 pub mod EntryLaws
 pub mod Joining
 pub mod Escaping
+pub mod EntrySizes

@@ -1,5 +1,6 @@
 -- The fields of an entry, and the one spelling of each.
 use Rattle.std.specs.Prelude.{ℕ, ◌<◌, ◌≤◌, ◌^◌, List, [], ◌∷◌, ◌++◌, length, Option, Some, None, IfSome, ⊤, IsUtf8}
+use Rattle.fh_base.specs.Limits.{longest_payload}
 use Rattle.std.specs.Int.{w32, w64, to_be_bytes}
 
 -- what stands in a field
@@ -8,10 +9,6 @@ pub data Field : Type 0 where
   words : List ℕ → Field
   maybe_number : Option ℕ → Field
   maybe_words : Option (List ℕ) → Field
-
--- the most bytes of a text
-abbrev pub text_limit : ℕ
-text_limit = 16777216
 
 -- eight bytes, the greatest place first
 unfoldable pub number_bytes : ℕ → List ℕ
@@ -35,7 +32,7 @@ spelled (maybe_words text) = maybe_bytes text_bytes text
 -- the text is UTF-8 and not too long
 pub record IsText (text : List ℕ) : Type 0 where
   pub utf8 : IsUtf8 text
-  pub short : length text ≤ text_limit
+  pub short : length text ≤ longest_payload
 
 -- what may stand in a field
 abbrev pub IsField : Field → Type 0
@@ -47,6 +44,6 @@ IsField (maybe_words text) = IfSome text IsText
 -- no text is too long for a field
 abbrev pub IsShort : Field → Type 0
 IsShort (number n) = ⊤
-IsShort (words text) = length text ≤ text_limit
+IsShort (words text) = length text ≤ longest_payload
 IsShort (maybe_number n) = ⊤
-IsShort (maybe_words text) = IfSome text (λ t. length t ≤ text_limit)
+IsShort (maybe_words text) = IfSome text (λ t. length t ≤ longest_payload)

@@ -10,7 +10,7 @@ use Rattle.fh_event.specs.declared.faults.EventFault.TheVariants.{BadKind, Short
 use Rattle.fh_event.specs.declared.tables.FieldType.{FieldType}
 use Rattle.fh_event.specs.declared.tables.FieldType.TheVariants.{Number, Words, MaybeNumber, MaybeWords}
 use Rattle.fh_event.specs.Answers.{◌>>=◌}
-use Rattle.fh_event.specs.Fields.{text_limit}
+use Rattle.fh_base.specs.Limits.{longest_payload}
 use Rattle.fh_event.specs.Kinds.{Kind, kind_at, types_of, Held, Taking, made}
 
 abbrev pub number_at : Width → ℕ → List ℕ → Result (ℕ × List ℕ) EventFault
@@ -21,7 +21,7 @@ number_at w field bytes =
 -- the text of so many bytes
 abbrev pub text_of_length : ℕ → ℕ → List ℕ → Result (List ℕ × List ℕ) EventFault
 text_of_length field n bytes =
-    if nat_lt text_limit n then Err (LongField field)
+    if nat_lt longest_payload n then Err (LongField field)
     else (if nat_lt (length bytes) n then Err (ShortField field)
     else (if is_utf8 (take n bytes) then Ok (take n bytes, drop n bytes) else Err (BadField field)))
 

@@ -1,5 +1,5 @@
 // Commands.
-use crate::text::Text;
+use fh_base::Text;
 
 /// What a caller asks of the store. Names are texts here: the machine judges them. Delays, times to live
 /// and holds are in seconds. docs/commands.md has each command's effect and answers.

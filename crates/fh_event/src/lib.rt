@@ -4,8 +4,8 @@
 //! `encode` appends is the one spelling of a moment and a command, and after want of memory nothing is
 //! appended. `decode` reads exactly these spellings and answers every other list of bytes with its first
 //! fault from the left; so reading what was written gives the same value, and no second spelling is read.
-//! `answer_text` writes the line that a script prints for a reply or a rule. `utf8_text` answers
-//! bytes as a text exactly where they are UTF-8.
+//! `entry_size` says how long a command's entry is. `answer_text` writes the line that a script prints for
+//! a reply or a rule.
 #![tactic(auto)]
 
 mod command;
@@ -14,8 +14,8 @@ mod laws;
 mod lines;
 mod reading;
 mod reply;
+mod sizes;
 mod tables;
-mod text;
 mod writing;
 
 pub use command::Command;
@@ -24,8 +24,8 @@ pub use laws::{entries_have_one_reading, tables_are_those_of_the_grammar};
 pub use lines::answer_text;
 pub use reading::decode;
 pub use reply::{Item, Items, Place, Reply};
+pub use sizes::entry_size;
 pub use tables::{CLEAR, DELETE, FieldType, LOCATE, MAKE_QUEUE, PEEK, PUT, TAKE, Table, UPDATE};
-pub use text::{Text, utf8_text};
 pub use writing::encode;
 
 #[cfg(test)]

@@ -8,11 +8,8 @@ ghost use Rattle.fh_event.specs.Entries.{IsEntry};
 use crate::command::Command;
 use crate::faults::EventFault;
 use crate::tables::{clear, delete, locate, make_queue, peek, put, take, update};
-use crate::text::{Text, utf8_text};
-use fh_base::Moment;
+use fh_base::{LONGEST_PAYLOAD, Moment, Text, utf8_text};
 use std::alloc::Global;
-
-const LIMIT: usize = 16777216;
 
 /// The moment and the command of an entry, which the bytes are from end to end.
 #[tactic(auto, using(crate::proofs::EntryLaws::is_read, crate::proofs::EntryLaws::read_again))]
@@ -58,7 +55,7 @@ fn text_of(alloc: Global, field: u8, bytes: &[u8]) -> Result<(Text, &[u8]), Even
 {
     let (length, rest) = length_of(field, bytes)?;
     let length = length as usize;
-    if length > LIMIT {
+    if length > LONGEST_PAYLOAD {
         return Err(EventFault::LongField { field });
     }
     if rest.len() < length {

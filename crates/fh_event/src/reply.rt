@@ -1,8 +1,7 @@
 // Replies.
 ghost use Rattle.std.specs.Prelude.{◌≡◌};
 
-use crate::text::Text;
-use fh_base::QueueName;
+use fh_base::{QueueName, Text};
 use std::marker::Model;
 
 /// A message as `Taken` and `Peeked` list it. `receipt` is the newest one.

@@ -1,8 +1,9 @@
 // Writing entries.
 ghost use Rattle.std.specs.Prelude.{◌≡◌, ◌^◌, ◌<◌, ◌≤◌, ◌∷◌, ◌++◌, length, OnOk, OnErr, IfSome};
 ghost use Rattle.std.specs.List.{flat_map, AllByRecursion};
-ghost use Rattle.fh_event.specs.Fields.{number_bytes, text_bytes, maybe_bytes, text_limit, spelled, IsText, IsField};
+ghost use Rattle.fh_event.specs.Fields.{number_bytes, text_bytes, maybe_bytes, spelled, IsText, IsField};
 ghost use Rattle.fh_event.specs.Kinds.{kind_number, kind_of, fields_of};
+ghost use Rattle.fh_base.specs.Limits.{longest_payload};
 ghost use Rattle.fh_event.specs.Entries.{entry, HasShortTexts, AppendsEntry, Extends};
 
 use crate::command::Command;
@@ -10,8 +11,7 @@ use crate::tables::{
     CLEAR, DELETE, LOCATE, MAKE_QUEUE, PEEK, PUT, TAKE, UPDATE, clear, delete, locate, make_queue,
     peek, put, take, update,
 };
-use crate::text::Text;
-use fh_base::{Moment, NoMemory};
+use fh_base::{Moment, NoMemory, Text};
 
 /// Appends the entry of the moment and the command, if no text has more than 16,777,216 bytes. After want of memory nothing is appended.
 #[tactic(auto, using(crate::proofs::Extending::taken_back))]
@@ -52,7 +52,7 @@ fn put_number(into: &mut Vec<u8>, number: u64) -> Result<(), NoMemory>
 
 #[tactic(auto, using(crate::proofs::Extending::extending), unfolding(crate::specs::Fields::text_bytes))]
 fn put_text(into: &mut Vec<u8>, text: &Text) -> Result<(), NoMemory>
-    requires { length text.now ≤ text_limit }
+    requires { length text.now ≤ longest_payload }
     ensures ok { OnOk result (into.new.items ≡ into.old.items ++ text_bytes text.now) }
     ensures grows { Extends into.old.items into.new.items }
     ensures field { OnOk result (IsText text.now) }
@@ -80,7 +80,7 @@ fn put_maybe_number(into: &mut Vec<u8>, number: &Option<u64>) -> Result<(), NoMe
 
 #[tactic(auto, using(crate::proofs::Extending::extending), unfolding(crate::specs::Fields::maybe_bytes))]
 fn put_maybe_text(into: &mut Vec<u8>, text: &Option<Text>) -> Result<(), NoMemory>
-    requires { IfSome text.now (λ t. length t ≤ text_limit) }
+    requires { IfSome text.now (λ t. length t ≤ longest_payload) }
     ensures ok { OnOk result (into.new.items ≡ into.old.items ++ maybe_bytes text_bytes text.now) }
     ensures grows { Extends into.old.items into.new.items }
     ensures field { OnOk result (IfSome text.now IsText) }

@@ -1,7 +1,7 @@
 use super::*;
-use fh_base::{Failing, FaultPlan};
+use fh_base::{Failing, FaultPlan, Text};
 use fh_disk::{Disk, MemoryDisk};
-use fh_event::{Command, EventFault, Place, StepFault, Text, answer_text};
+use fh_event::{Command, EventFault, Place, StepFault, answer_text};
 use fh_journal::FrameRule;
 use std::alloc::Global;
 use std::test::Fail;

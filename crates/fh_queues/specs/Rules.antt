@@ -1,5 +1,6 @@
 -- The rules that refuse what is asked of the queues, in order of their numbers.
 use Rattle.std.specs.Prelude.{ℕ, ◌-◌, ◌==◌, min, nat_le, nat_lt, ◌&&◌, if◌then◌else◌, List, [], ◌∷◌, length, Option, Some, None}
+use Rattle.fh_base.specs.Limits.{longest_text, seconds_of_week}
 use Rattle.fh_base.specs.declared.rule.Rule.{Rule}
 use Rattle.fh_base.specs.declared.rule.Rule.TheVariants.{TooLarge, OutOfRange, QueueNotFound, MessageNotFound, PopReceiptMismatch, StoreFull}
 use Rattle.fh_queues.specs.declared.row.Message.{Message}
@@ -18,7 +19,7 @@ range_rule given low high =
 
 -- a text has at most 65,536 bytes
 abbrev pub text_rule : List ℕ → Option Rule
-text_rule text = if nat_lt 65536 (length text) then Some (TooLarge (length text) 65536) else None
+text_rule text = if nat_lt longest_text (length text) then Some (TooLarge (length text) longest_text) else None
 
 abbrev pub new_text_rule : Option (List ℕ) → Option Rule
 new_text_rule None = None
@@ -30,8 +31,8 @@ ttl_rule (Some ttl) = range_rule ttl 1 2147483647
 
 -- a message is visible before it expires
 abbrev pub most_delay : Option ℕ → ℕ
-most_delay None = 604800
-most_delay (Some ttl) = min 604800 (ttl - 1)
+most_delay None = seconds_of_week
+most_delay (Some ttl) = min seconds_of_week (ttl - 1)
 
 abbrev pub delay_rule : ℕ → Option ℕ → Option Rule
 delay_rule delay ttl = range_rule delay 0 (most_delay ttl)
@@ -55,7 +56,7 @@ put_rule part queue delay ttl text =
 
 abbrev pub take_rule : QueuePart → List ℕ → ℕ → ℕ → Option Rule
 take_rule part queue count hold =
-    first_broken (range_rule count 1 32 ∷ range_rule hold 1 604800 ∷ queue_rule part queue ∷ [])
+    first_broken (range_rule count 1 32 ∷ range_rule hold 1 seconds_of_week ∷ queue_rule part queue ∷ [])
 
 abbrev pub peek_rule : QueuePart → List ℕ → ℕ → Option Rule
 peek_rule part queue count = first_broken (range_rule count 1 32 ∷ queue_rule part queue ∷ [])
@@ -68,4 +69,4 @@ message_rule part m queue number receipt =
 abbrev pub update_rule : QueuePart → ℕ → List ℕ → ℕ → ℕ → ℕ → Option (List ℕ) → Option Rule
 update_rule part m queue number receipt hold text =
     first_broken
-    (new_text_rule text ∷ range_rule hold 0 604800 ∷ message_rule part m queue number receipt ∷ [])
+    (new_text_rule text ∷ range_rule hold 0 seconds_of_week ∷ message_rule part m queue number receipt ∷ [])

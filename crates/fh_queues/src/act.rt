@@ -3,8 +3,7 @@ ghost use Rattle.std.specs.Prelude.{◌≡◌};
 ghost use Rattle.fh_queues.specs.Acts.{is_one};
 
 use crate::{About, Ending, Message};
-use fh_base::{Moment, QueueName};
-use fh_event::Text;
+use fh_base::{Moment, QueueName, Text};
 
 /// A message that is put. Its number and its receipt are the next ones.
 #[derive(Drop)]

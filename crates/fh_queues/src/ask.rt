@@ -1,7 +1,6 @@
 // What is asked of the queues.
 use crate::About;
-use fh_base::QueueName;
-use fh_event::Text;
+use fh_base::{QueueName, Text};
 
 /// A change that is asked for. Delays, times to live and holds are in seconds.
 #[derive(Clone, Copy)]

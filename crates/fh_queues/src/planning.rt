@@ -11,8 +11,8 @@ ghost use Rattle.fh_queues.specs.Faults.{IsPlanOf};
 use crate::act::{Act, NewMessage, RowChange, Which};
 use crate::choosing::{chosen, taken_items};
 use crate::{About, Ending, Message, QueueAsk, QueueChange, QueueDone, Queues};
-use fh_base::{Moment, NoMemory, QueueName, Rule};
-use fh_event::{Item, PlanFault, Text};
+use fh_base::{Moment, NoMemory, QueueName, Rule, Text};
+use fh_event::{Item, PlanFault};
 use std::alloc::Global;
 
 const MILLISECONDS: u64 = 1000;

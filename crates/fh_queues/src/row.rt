@@ -2,8 +2,7 @@
 ghost use Rattle.std.specs.Prelude.{◌≡◌, IfOk};
 ghost use Rattle.fh_queues.specs.Rows.{is_live, is_visible, is_of};
 
-use fh_base::{Moment, NoMemory, QueueName};
-use fh_event::Text;
+use fh_base::{Moment, NoMemory, QueueName, Text};
 use std::alloc::Global;
 
 /// The blob that a message is about, as it was at that version.

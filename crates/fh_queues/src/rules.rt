@@ -4,17 +4,10 @@ ghost use Rattle.fh_queues.specs.Rows.{live, row_in};
 ghost use Rattle.fh_queues.specs.Rules.{range_rule, text_rule, new_text_rule, ttl_rule, delay_rule, queue_rule, receipt_rule, store_rule, put_rule, take_rule, peek_rule, message_rule, update_rule};
 
 use crate::{Message, Queues};
-use fh_base::{Moment, QueueName, Rule};
-use fh_event::Text;
-
-/// The most bytes of a text.
-const MOST_TEXT: u64 = 65_536;
+use fh_base::{LONGEST_TEXT, Moment, QueueName, Rule, SECONDS_OF_WEEK, Text};
 
 /// The most messages that are live.
 const MOST_LIVE: u64 = 100_000;
-
-/// The longest delay and hold, in seconds: seven days.
-const SEVEN_DAYS: u64 = 604_800;
 
 /// The longest time to live, in seconds.
 const MOST_TTL: u64 = 2_147_483_647;
@@ -50,7 +43,7 @@ impl Queues {
         if let Some(rule) = range_rule(count, 1, MOST_COUNT) {
             return Some(rule);
         }
-        if let Some(rule) = range_rule(hold, 1, SEVEN_DAYS) {
+        if let Some(rule) = range_rule(hold, 1, SECONDS_OF_WEEK) {
             return Some(rule);
         }
         self.queue_rule(queue)
@@ -80,7 +73,7 @@ impl Queues {
         if let Some(rule) = new_text_rule(text) {
             return Some(rule);
         }
-        if let Some(rule) = range_rule(hold, 0, SEVEN_DAYS) {
+        if let Some(rule) = range_rule(hold, 0, SECONDS_OF_WEEK) {
             return Some(rule);
         }
         self.message_rule(m, queue, number, receipt)
@@ -138,11 +131,10 @@ fn range_rule(given: u64, low: u64, high: u64) -> Option<Rule>
 fn text_rule(text: &Text) -> Option<Rule>
     ensures { result ≡ text_rule text.now }
 {
-    let size = text.len() as u64;
-    if MOST_TEXT < size {
+    if LONGEST_TEXT < text.len() {
         return Some(Rule::TooLarge {
-            size,
-            limit: MOST_TEXT,
+            size: text.len() as u64,
+            limit: LONGEST_TEXT as u64,
         });
     }
     None
@@ -171,8 +163,8 @@ fn delay_rule(delay: u64, ttl: Option<u64>) -> Option<Rule>
     ensures { result ≡ delay_rule delay ttl }
 {
     match ttl {
-        None => range_rule(delay, 0, SEVEN_DAYS),
-        Some(ttl) => range_rule(delay, 0, SEVEN_DAYS.min(ttl.saturating_sub(1))),
+        None => range_rule(delay, 0, SECONDS_OF_WEEK),
+        Some(ttl) => range_rule(delay, 0, SECONDS_OF_WEEK.min(ttl.saturating_sub(1))),
     }
 }
 

@@ -2,8 +2,8 @@ ghost use Rattle.std.specs.Prelude.{◌≡◌, true};
 ghost use Rattle.fh_queues.specs.Edits.{IsIdle, HasNumbers};
 
 use super::*;
-use fh_base::{Moment, NoMemory, QueueName};
-use fh_event::{PlanFault, Reply, Text, answer_text};
+use fh_base::{Moment, NoMemory, QueueName, Text};
+use fh_event::{PlanFault, Reply, answer_text};
 use std::alloc::{AllocGlobal, Global};
 use std::process::Abort;
 use std::test::Fail;

@@ -5,7 +5,7 @@ use Rattle.std.specs.Str.{IsUtf8, bytes_eq}
 use Rattle.percent_encoding.specs.Percent.{percent_decode}
 use Rattle.fh_script.specs.declared.faults.LineFault.TheVariants.{BadText}
 use Rattle.fh_script.specs.Forms.{text_of}
-use Rattle.fh_event.proofs.Utf8.{is_text, is_no_text}
+use Rattle.fh_base.proofs.Utf8.{is_text, is_no_text}
 
 module _ (word decoded : List ℕ) (longer : bytes_eq word (codes "%") ≡ false) (is : decoded ≡ percent_decode word) where
   pub text_of-decoded : (text : List ℕ) → IsUtf8 decoded → text ≡ decoded → text_of word ≡ Ok text

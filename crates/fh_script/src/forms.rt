@@ -6,8 +6,7 @@ ghost use Rattle.fh_script.specs.Forms.{is_number, number_of, number_or_default,
 ghost use Rattle.fh_script.specs.Reading.{Gives};
 
 use crate::faults::{LineFault, Stop};
-use fh_base::NoMemory;
-use fh_event::Text;
+use fh_base::{NoMemory, Text};
 use percent_encoding::{DecodeError, percent_decode};
 use std::alloc::Global;
 use std::borrow::CowStr;

@@ -8,8 +8,8 @@ use crate::faults::{LineFault, Stop};
 use crate::forms::{lifetime, number, number_or, text};
 use crate::lines::line_text;
 use crate::words::words_of;
-use fh_base::NoMemory;
-use fh_event::{Command, utf8_text};
+use fh_base::{NoMemory, utf8_text};
+use fh_event::Command;
 use std::alloc::Global;
 
 /// What a line stands for.

@@ -1,0 +1,99 @@
+// How long entries are.
+ghost use Rattle.std.specs.Prelude.{◌≡◌, ℕ, ◌-◌, ◌≤◌, ◌^◌, min, length};
+ghost use Rattle.std.specs.List.{flat_map};
+ghost use Rattle.fh_base.specs.Limits.{longest_payload};
+ghost use Rattle.fh_event.specs.Fields.{number_bytes, text_bytes, maybe_bytes, spelled};
+ghost use Rattle.fh_event.specs.Kinds.{fields_of};
+ghost use Rattle.fh_event.specs.Entries.{entry, HasShortTexts};
+
+use crate::command::Command;
+use crate::tables::{clear, delete, locate, make_queue, peek, put, take, update};
+use fh_base::Text;
+
+/// What an entry has before its fields: the moment, and the kind.
+const BEFORE_FIELDS: u64 = 9;
+
+/// The bytes of a number.
+const NUMBER: u64 = 8;
+
+/// The bytes of a text's length.
+const LENGTH: u64 = 4;
+
+/// The number of bytes of the command's entry, which is the same at each moment. One above 2^64 - 1 is
+/// given as 2^64 - 1.
+#[tactic(auto, using(crate::proofs::EntrySizes::entry_is, crate::proofs::EntrySizes::short_texts))]
+pub fn entry_size(command: &Command) -> u64
+    ensures size { (moment : ℕ) → result ≡ min (length (entry moment command.now)) (2 ^ 64 - 1) }
+    ensures short { result ≤ longest_payload → HasShortTexts command.now }
+{
+    BEFORE_FIELDS.saturating_add(fields_size(command))
+}
+
+// Adds up the sizes of the fields of a table.
+macro_rules! sizer {
+    ([$command:ident] $kind:literal $variant:ident { $($field:literal $name:ident: $type:ident),* }) => {{
+        let Command::$variant { $($name),* } = $command else {
+            unreachable!()
+        };
+        let size = 0u64;
+        $(let size = size.saturating_add(held_size!($type $name));)*
+        size
+    }};
+}
+
+macro_rules! held_size {
+    (Number $name:ident) => { number_size(*$name) };
+    (Words $name:ident) => { text_size($name) };
+    (MaybeNumber $name:ident) => { maybe_number_size($name) };
+    (MaybeWords $name:ident) => { maybe_text_size($name) };
+}
+
+#[tactic(auto, using(crate::proofs::EntrySizes::adding))]
+fn fields_size(command: &Command) -> u64
+    ensures { result ≡ min (length (flat_map spelled (fields_of command.now))) (2 ^ 64 - 1) }
+{
+    match command {
+        Command::MakeQueue { .. } => make_queue!(sizer command),
+        Command::Put { .. } => put!(sizer command),
+        Command::Take { .. } => take!(sizer command),
+        Command::Update { .. } => update!(sizer command),
+        Command::Delete { .. } => delete!(sizer command),
+        Command::Clear { .. } => clear!(sizer command),
+        Command::Peek { .. } => peek!(sizer command),
+        Command::Locate { .. } => locate!(sizer command),
+    }
+}
+
+#[tactic(auto, unfolding(crate::specs::Fields::number_bytes))]
+fn number_size(number: u64) -> u64
+    ensures { result ≡ length (number_bytes number) }
+{
+    NUMBER
+}
+
+#[tactic(auto, using(crate::proofs::EntrySizes::adding), unfolding(crate::specs::Fields::text_bytes))]
+fn text_size(text: &Text) -> u64
+    ensures { result ≡ min (length (text_bytes text.now)) (2 ^ 64 - 1) }
+{
+    LENGTH.saturating_add(text.len() as u64)
+}
+
+#[tactic(auto, unfolding(crate::specs::Fields::maybe_bytes, crate::specs::Fields::number_bytes))]
+fn maybe_number_size(number: &Option<u64>) -> u64
+    ensures { result ≡ length (maybe_bytes number_bytes number.now) }
+{
+    match number {
+        None => 1,
+        Some(number) => 1 + number_size(*number),
+    }
+}
+
+#[tactic(auto, using(crate::proofs::EntrySizes::adding), unfolding(crate::specs::Fields::maybe_bytes))]
+fn maybe_text_size(text: &Option<Text>) -> u64
+    ensures { result ≡ min (length (maybe_bytes text_bytes text.now)) (2 ^ 64 - 1) }
+{
+    match text {
+        None => 1,
+        Some(text) => 1u64.saturating_add(text_size(text)),
+    }
+}
