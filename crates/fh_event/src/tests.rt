@@ -1,5 +1,5 @@
 use super::*;
-use fh_base::{Moment, QueueName, Rule, Text};
+use fh_base::{Moment, QueueName, Rule, Text, utf8_text};
 use std::test::Fail;
 
 const MADE: [u8; 19] = [

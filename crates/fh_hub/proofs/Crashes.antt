@@ -27,7 +27,7 @@ module _ {D : Type 0} (told : D → Option (List ℕ)) (may_leave : D → List �
   pub untouched : (disk : D) (only_now : (c : List ℕ) → left_since disk (moment disk) c → may_leave disk c) (torn : Bool) (history entries : List Entry) (failed : Entry) (gate : ℕ)
       → KeepsHistory (told disk) (may_leave disk) torn history failed gate
       → IfSome (told disk) (λ _. LeavesOnly moment left_since disk disk (MayStandFor torn history failed entries))
-  untouched disk only_now torn history entries failed gate kept = of_told (told disk) kept.keeps
+  untouched disk only_now torn history entries failed gate kept = of_told (told disk) kept
     where
       of_told : (bytes : Option (List ℕ)) → Keeps bytes (may_leave disk) torn (payloads_of history) (bytes_of failed) gate → IfSome bytes (λ _. LeavesOnly moment left_since disk disk (MayStandFor torn history failed entries))
       of_told None keeps = tt
@@ -47,10 +47,8 @@ module _ {D : Type 0} (told : D → Option (List ℕ)) (may_leave : D → List �
 -- a history that goes on by an appended entry
 pub keeps_pushed : (told : Option (List ℕ)) (images : List ℕ → Type 0) (history : List Entry) (e failed : Entry) (payload : List ℕ) (gate : ℕ) → payload ≡ bytes_of e
     → Keeps told images false (payloads_of history ++ payload ∷ []) [] gate → KeepsHistory told images false (history ++ e ∷ []) failed gate
-keeps_pushed told images history e failed payload gate is keeps = record {
-  keeps = of_told told (subst (λ (ps : List (List ℕ)). Keeps told images false ps [] gate) (ap (λ (p : List ℕ). payloads_of history ++ p ∷ []) is ∙ sym (payloads_push history e)) keeps);
-  legal = λ torn. absurd (cc);
-}
+keeps_pushed told images history e failed payload gate is keeps =
+    of_told told (subst (λ (ps : List (List ℕ)). Keeps told images false ps [] gate) (ap (λ (p : List ℕ). payloads_of history ++ p ∷ []) is ∙ sym (payloads_push history e)) keeps)
   where
     of_told : (bytes : Option (List ℕ)) → Keeps bytes images false (payloads_of (history ++ e ∷ [])) [] gate → Keeps bytes images false (payloads_of (history ++ e ∷ [])) (bytes_of failed) gate
     of_told None keeps = tt

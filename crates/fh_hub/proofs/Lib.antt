@@ -1,9 +1,7 @@
-pub mod Sizes
 pub mod Crashes
 pub mod Histories
 pub mod Mounted
 pub mod Outcomes
-pub mod Narrow
 pub mod Recording
 pub mod Replays
 pub mod Spelling
@@ -14,3 +12,4 @@ pub mod Places
 pub mod Guarding
 pub mod Rising
 pub mod Turns
+pub mod Bounds

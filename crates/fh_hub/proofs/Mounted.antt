@@ -1,13 +1,11 @@
 -- Why a journal isn't mounted.
-use Rattle.std.proofs.Common.{◌≡◌, inl, inr, ℕ, zero, suc, ◌+◌, ◌<◌, ◌≤◌, Bool, true, false, List, [], ◌∷◌, ◌++◌, length, take, drop, Option, Some, None, Ok, Err, refl, sym, ap, ◌∙◌, subst, arith, get_or, length-append}
+use Rattle.std.proofs.Common.{◌≡◌, inl, inr, ℕ, ◌<◌, ◌≤◌, Bool, true, false, List, [], ◌∷◌, ◌++◌, length, Option, Some, None, Ok, Err, refl, sym, ap, ◌∙◌, subst, arith, length-append}
 use Rattle.std.specs.Prelude.{nat_le, if◌then◌else◌, Result, IfErr, IfSome}
-use Rattle.std.specs.List.{flat_map}
-use Rattle.std.specs.Int.{w32, to_be_bytes}
 use Rattle.std.proofs.lemmas.Bool.Decides.{nat_tests}
 use Rattle.fh_event.specs.Entries.{IsEntry}
 use Rattle.fh_event.proofs.EntryLaws.{read_again}
 use Rattle.fh_journal.specs.Frames.{payloads_of as payloads_in, frames_from}
-use Rattle.fh_journal.specs.Journal.{frame, opened, Stands}
+use Rattle.fh_journal.specs.Journal.{opened, gate_behind, Stands}
 use Rattle.fh_journal.specs.Keeping.{Keeps}
 use Rattle.fh_journal.specs.Mounting.{MountsTold, mounted_file, fresh_file}
 use Rattle.fh_journal.specs.declared.frames.Frame.{Frame}
@@ -43,51 +41,37 @@ pub refused_entry : {T : Type 0} (s : HubState) (payload : List ℕ) (e : Entry)
 refused_entry s payload e (Ok x) world is reason = tt
 refused_entry s payload e (Err fault) world is reason = entry_refused s payload e fault world is reason
 
--- the frames around one
-pub around : (frames : List Frame) (i : ℕ) (f : Frame) → i < length frames → f ≡ get_or frames i f → payloads_in frames ≡ payloads_in (take i frames) ++ f.payload ∷ payloads_in (drop (suc i) frames)
-around [] i f within is = absurd (omega (arith, within))
-around (first ∷ frames) zero f within is = ap (λ (g : Frame). g.payload ∷ payloads_in frames) (sym is)
-around (first ∷ frames) (suc i) f within is = ap (λ (ps : List (List ℕ)). first.payload ∷ ps) (around frames i f (omega (arith, within)) is)
+-- the frames that are left, of which the first has its gate at this place and each next one follows
+pub rest_follow : (at : ℕ) (f : Frame) (rest : List Frame) → f ∷ rest ≡ frames_from at (payloads_in (f ∷ rest))
+    → (f.at ≡ at) × (rest ≡ frames_from (gate_behind at (length f.payload)) (payloads_in rest))
+rest_follow at f rest follow =
+    let is : f ≡ record { at = at; payload = f.payload } = cc in
+    let others : rest ≡ frames_from (gate_behind at (length f.payload)) (payloads_in rest) = cc in
+    (ap (λ (g : Frame). g.at) is, others)
 
--- the place of a frame among those that follow each other
-placed : (at : ℕ) (frames : List Frame) (i : ℕ) (d : Frame) → frames ≡ frames_from at (payloads_in frames) → i < length frames → (get_or frames i d).at ≡ at + length (flat_map frame (payloads_in (take i frames)))
-placed at [] i d follow within = absurd (omega (arith, within))
-placed at (first ∷ frames) zero d follow within =
-    let is : first ≡ record { at = at; payload = first.payload } = cc in
-    ap (λ (f : Frame). f.at) is ∙ omega arith
-placed at (first ∷ frames) (suc i) d follow within =
-    let rest : frames ≡ frames_from (at + 5 + length first.payload) (payloads_in frames) = cc in
-    placed (at + 5 + length first.payload) frames i d rest (omega (arith, within))
-    ∙ omega (arith, length-append (frame first.payload) (flat_map frame (payloads_in (take i frames))), length-append (to_be_bytes w32 (length first.payload)) first.payload)
-
-place_of : (frames : List Frame) (i : ℕ) (f : Frame) (history : List Entry) → frames ≡ frames_from 6 (payloads_in frames) → i < length frames → f ≡ get_or frames i f → payloads_of history ≡ payloads_in (take i frames) → f.at ≡ length (opened (payloads_of history))
-place_of frames i f history follow within is so_far =
-    let at = placed 6 frames i f follow within in
-    let same = ap (λ (ps : List (List ℕ)). length (flat_map frame ps)) so_far in
-    let here = ap (λ (g : Frame). g.at) is in
-    omega (arith, at, same, here)
-
--- a frame whose entry isn't replayed
-pub frame_refused : (frames : List Frame) (i : ℕ) (f : Frame) (history : List Entry) (fault : EntryFault) → frames ≡ frames_from 6 (payloads_in frames) → i < length frames → f ≡ get_or frames i f → payloads_of history ≡ payloads_in (take i frames) → IsLegal history → HasEntryReason history f.payload fault → HasReplayReason (payloads_in frames) (fault_of_entry f.at fault)
-frame_refused frames i f history (entries.Event fault) follow within is so_far legal reason = record {
+-- a frame whose entry isn't replayed behind a history
+pub frame_refused : (payloads : List (List ℕ)) (f : Frame) (rest : List Frame) (history : List Entry) (fault : EntryFault)
+    → payloads_of history ++ payloads_in (f ∷ rest) ≡ payloads → f.at ≡ length (opened (payloads_of history)) → IsLegal history
+    → HasEntryReason history f.payload fault → HasReplayReason payloads (fault_of_entry f.at fault)
+frame_refused payloads f rest history (entries.Event fault) whole place legal reason = record {
   history = history;
   legal = legal;
   payload = f.payload;
-  more = payloads_in (drop (suc i) frames);
-  whole = rw so_far (around frames i f within is);
-  place = place_of frames i f history follow within is so_far;
+  more = payloads_in rest;
+  whole = sym whole;
+  place = place;
   refused = reason;
 }
-frame_refused frames i f history entries.Refused follow within is so_far legal reason = record {
+frame_refused payloads f rest history entries.Refused whole place legal reason = record {
   history = history;
   legal = legal;
   payload = f.payload;
-  more = payloads_in (drop (suc i) frames);
-  whole = rw so_far (around frames i f within is);
-  place = place_of frames i f history follow within is so_far;
+  more = payloads_in rest;
+  whole = sym whole;
+  place = place;
   refused = reason;
 }
-frame_refused frames i f history entries.NoMemory follow within is so_far legal reason = tt
+frame_refused payloads f rest history entries.NoMemory whole place legal reason = tt
 
 -- a file whose frames are whole, and of which an entry isn't replayed
 broken : (was now : List ℕ) (payloads : List (List ℕ)) (gate : ℕ) (fault : HubFault) → Stands now payloads gate → now ≡ mounted_file was → HasReplayReason payloads fault → MountsBytes was now (Some fault)

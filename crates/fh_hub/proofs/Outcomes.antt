@@ -1,5 +1,5 @@
 -- What the stores do together is what each does.
-use Rattle.std.proofs.Common.{◌≡◌, ℕ, ap, refl}
+use Rattle.std.proofs.Common.{◌≡◌, ℕ, ap}
 use Rattle.fh_event.specs.Judging.{Judged, Refuses, Quiets, Makes}
 use Rattle.fh_queues.specs.declared.done.QueueDone.{QueueDone}
 use Rattle.fh_queues.specs.Part.{QueuePart}

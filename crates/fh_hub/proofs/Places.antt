@@ -1,6 +1,6 @@
 -- Each message is in one place, which the world tells.
 use Rattle.std.proofs.Common.{◌≡◌, ℕ, ◌+◌, ◌≤◌, Bool, true, false, not, List, [], ◌∷◌, Option, Some, None, is_some, refl, sym, ◌∙◌, ap, arith}
-use Rattle.std.specs.Prelude.{◌==◌, ◌&&◌, ◌||◌, nat_le, nat_lt, if◌then◌else◌}
+use Rattle.std.specs.Prelude.{◌&&◌, ◌||◌, nat_le, nat_lt, if◌then◌else◌}
 use Rattle.std.proofs.lemmas.Bool.Decides.{nat_tests}
 use Rattle.fh_event.specs.declared.reply.Place.{Place}
 use Rattle.fh_event.specs.declared.reply.Place.TheVariants as place
@@ -8,17 +8,16 @@ use Rattle.fh_queues.specs.declared.row.Message.{Message}
 use Rattle.fh_queues.specs.declared.done.Ending.{Ending}
 use Rattle.fh_queues.specs.declared.done.Ending.TheVariants.{Deleted, Completed, Moved, Expired}
 use Rattle.fh_queues.specs.Order.{are_rising}
-use Rattle.fh_queues.specs.Part.{end_of}
 use Rattle.fh_queues.specs.Rows.{is_before, is_live, row_of, live_row}
 use Rattle.fh_queues.specs.Seen.{Seen, Unborn, Stands, Ended, seen}
-use Rattle.fh_queues.specs.Places.{place_of_live, place_of_ending, place_by, place_of}
+use Rattle.fh_queues.specs.Places.{place_of_live, place_by, place_of}
 use Rattle.fh_queues.proofs.Lawful.{row_seen}
 use Rattle.fh_hub.specs.World.{World}
 use Rattle.fh_hub.specs.Replay.{Entry, Event, trace, replay}
 use Rattle.fh_hub.specs.Laws.{births}
 use Rattle.fh_hub.specs.Places.{expiry_by, expiry_of, queue_of, last_hold, ends_after, waits, is_waiting, is_held, was_removed, has_expired, one_if, places, IsInOnePlace, IsPlace, IsLocated}
 use Rattle.fh_hub.proofs.Births.{unborn}
-use Rattle.fh_hub.proofs.Told.{Told, IsTold, HasExpired, IsSeenBy, expired_later, no_row, told}
+use Rattle.fh_hub.proofs.Told.{Told, IsTold, IsSeenBy, expired_later, no_row, told}
 
 live_row-above : (n t low : ℕ) (rows : List Message) → n ≤ low → are_rising low rows ≡ true → live_row n t rows ≡ None
 live_row-above n t low [] less rising = refl

@@ -1,6 +1,6 @@
 -- A recorded step, taken apart, and what holds of all histories because each recorded step keeps it.
-use Rattle.std.proofs.Common.{◌≡◌, ℕ, ◌+◌, Bool, true, false, List, [], ◌∷◌, ◌++◌, Option, Some, None, Ok, length, refl, sym, ◌∙◌, ap, subst, append_assoc, append-nil}
-use Rattle.std.specs.Prelude.{nat_le, nat_lt, if◌then◌else◌, Result, Err}
+use Rattle.std.proofs.Common.{◌≡◌, ℕ, Bool, true, false, List, [], ◌∷◌, ◌++◌, Option, Some, None, Ok, length, refl, sym, ◌∙◌, ap, subst, append_assoc, append-nil}
+use Rattle.std.specs.Prelude.{nat_le, if◌then◌else◌, Result, Err}
 use Rattle.fh_base.specs.Moments.{greatest_moment}
 use Rattle.fh_base.specs.Names.{is_queue_name}
 use Rattle.fh_base.specs.declared.rule.Rule.{Rule}
@@ -16,7 +16,7 @@ use Rattle.fh_queues.specs.Asks.{Ask}
 use Rattle.fh_queues.specs.Asks as asks
 use Rattle.fh_queues.specs.Outcome.{outcome, peeked}
 use Rattle.fh_hub.specs.Stores.{Parts, Asks, Done, outcomes, too_full}
-use Rattle.fh_hub.specs.World.{World, empty, Stepped, Refused, Read, Quieted, Recorded, Asked, Refuses, Reads, AsksAll, reads_items, asked_of, asked, reply_of, room_rule, world_with, recorded, unless_full, judged, stepped_by, step, step_at, effective_moment}
+use Rattle.fh_hub.specs.World.{World, empty, Stepped, Refused, Read, Quieted, Recorded, Asked, Refuses, Reads, AsksAll, reads_items, asked, reply_of, full_rule, world_with, recorded, unless_full, judged, stepped_by, step, step_at, effective_moment}
 use Rattle.fh_hub.specs.Replay.{Entry, Event, world_after, after, replay_from, replay, event_of, trace_from, trace}
 use Rattle.fh_hub.proofs.Outcomes.{outcome_of_queues}
 
@@ -73,16 +73,15 @@ module _ (w : World) (command : Command) (now : ℕ) (new : World) (reply : Repl
   abbrev m : ℕ
   m = effective_moment w now
 
-  from_room : (full room : Option Rule) (stepped : Stepped) → unless_full full (unless_full room stepped) ≡ Recorded new reply → stepped ≡ Recorded new reply
-  from_room None None stepped is = is
-  from_room None (Some rule) stepped is = absurd (cc)
-  from_room (Some rule) room stepped is = absurd (cc)
+  from_room : (full : Option Rule) (stepped : Stepped) → unless_full full stepped ≡ Recorded new reply → stepped ≡ Recorded new reply
+  from_room None stepped is = is
+  from_room (Some rule) stepped is = absurd (cc)
 
   from_judged : (size : ℕ) (full : Option Rule) (all : Asks) (found : Judged Parts Done) → all.queues ≡ ask_of command → outcomes w.parts all m ≡ found → judged w m size full found ≡ Recorded new reply → Made w command now new reply
   from_judged size full all (judging.Refuses rule) asking makes is = absurd (cc)
   from_judged size full all (judging.Quiets answer) asking makes is = absurd (cc)
   from_judged size full all (judging.Makes parts answer) asking makes is =
-      let stepped : recorded w m size parts answer ≡ Recorded new reply = from_room full (room_rule w.gate size) _ is in
+      let stepped : recorded w m size parts answer ≡ Recorded new reply = from_room (full_rule w.gate size full) _ is in
       let new_is : world_with w parts m size ≡ new = cc in
       let reply_is : reply_of answer ≡ reply = cc in
       let did = outcome_of_queues w.parts all m parts answer makes in

@@ -1,5 +1,5 @@
 -- What the rows and ends of a world say of its messages is what the events of its trace say.
-use Rattle.std.proofs.Common.{◌≡◌, ◌⊎◌, inl, inr, ℕ, ◌+◌, ◌≤◌, Bool, true, false, cond, List, [], ◌∷◌, ◌++◌, Option, Some, None, refl, sym, ◌∙◌, ap, subst, arith}
+use Rattle.std.proofs.Common.{◌≡◌, inl, inr, ℕ, ◌+◌, ◌≤◌, Bool, true, false, cond, List, [], ◌∷◌, ◌++◌, Option, Some, None, refl, sym, ◌∙◌, ap, subst, arith}
 use Rattle.std.specs.Prelude.{◌==◌, ◌&&◌, ◌||◌, nat_le, nat_lt, not, if◌then◌else◌}
 use Rattle.std.specs.List.{list_any}
 use Rattle.std.proofs.lemmas.Bool.Decides.{nat_tests}
@@ -7,7 +7,6 @@ use Rattle.std.proofs.lemmas.List.Sums.{fold_push, sum_by_push}
 use Rattle.std.proofs.lemmas.List.Recursion.{or_push}
 use Rattle.fh_event.specs.declared.command.Command.{Command}
 use Rattle.fh_event.specs.declared.command.Command.TheVariants.{MakeQueue, Put, Take, Update, Delete, Clear, Peek, Locate}
-use Rattle.fh_event.specs.declared.reply.Item.{Item}
 use Rattle.fh_event.specs.declared.reply.Reply.{Reply}
 use Rattle.fh_queues.specs.declared.row.Message.{Message}
 use Rattle.fh_queues.specs.declared.done.QueueDone.{QueueDone}
@@ -15,7 +14,7 @@ use Rattle.fh_queues.specs.declared.done.QueueDone.TheVariants as done
 use Rattle.fh_queues.specs.declared.done.Ending.{Ending}
 use Rattle.fh_queues.specs.declared.done.Ending.TheVariants.{Deleted, Completed, Moved, Expired}
 use Rattle.fh_queues.specs.Asks.{Ask}
-use Rattle.fh_queues.specs.Rows.{is_before, is_live, is_dead, row_of}
+use Rattle.fh_queues.specs.Rows.{is_before, is_live, row_of}
 use Rattle.fh_queues.specs.Part.{QueuePart, no_queues, end_of}
 use Rattle.fh_queues.specs.Outcome.{after}
 use Rattle.fh_queues.specs.Seen.{Seen, Unborn, Stands, Ended, seen_by, seen}
@@ -24,10 +23,9 @@ use Rattle.fh_queues.specs.Receipts.{born, given}
 use Rattle.fh_queues.specs.Goings.{answered, deletes, newly, goes_on}
 use Rattle.fh_queues.specs.Tellings.{items_in, lists, own_hold, newer, hold_given, queue_given, expiry_given, removes, IsNew, TellsOfMessages}
 use Rattle.fh_queues.proofs.Lawful.{Whole-none, Whole-outcome, row_seen, goes_as_answered, gives_numbers, gives_receipts, moves_little, tells}
-use Rattle.fh_hub.specs.World.{World, empty, effective_moment, reply_of, reply_of_queues}
+use Rattle.fh_hub.specs.World.{World, empty, effective_moment, reply_of_queues}
 use Rattle.fh_hub.specs.Replay.{Entry, Event, trace, replay}
 use Rattle.fh_hub.specs.Signs.{signs_of, signs, items_of, gives, bears}
-use Rattle.fh_hub.specs.State.{HubState, IsFaithful}
 use Rattle.fh_hub.specs.Laws.{births, receipts}
 use Rattle.fh_hub.specs.Places.{birth_of, expiry_by, queue_by, expiry_of, queue_of, last_hold, was_removed}
 use Rattle.fh_hub.proofs.Steps.{Made, IsKept, event, ask_of, kept_by_all}
@@ -177,7 +175,7 @@ module _ (events : List Event) (w : World) (command : Command) (now : ℕ) (new 
 
   births_after : (n : ℕ) → births n more ≡ once_below new.parts.queues.next_number n
   births_after n =
-      let moves = moves_little w.parts.queues ask m new.parts.queues answer h.whole made.queues in
+      let moves = moves_little w.parts.queues ask m new.parts.queues answer made.queues in
       births_push n
       ∙ ap (λ k. k + (if born n answer then 1 else 0)) (h.births n)
       ∙ ap (λ b. once_below w.parts.queues.next_number n + (if b then 1 else 0)) (gives_numbers w.parts.queues ask m new.parts.queues answer h.whole made.queues n)
@@ -185,7 +183,7 @@ module _ (events : List Event) (w : World) (command : Command) (now : ℕ) (new 
 
   receipts_after : (k : ℕ) → receipts k more ≡ once_below new.parts.queues.next_receipt k
   receipts_after k =
-      let moves = moves_little w.parts.queues ask m new.parts.queues answer h.whole made.queues in
+      let moves = moves_little w.parts.queues ask m new.parts.queues answer made.queues in
       sum_by_push (λ (x : Event). gives k x.reply) events e
       ∙ ap (λ j. receipts k events + j) (ap (gives k) made.replies ∙ gives_as_given k answer ∙ gives_receipts w.parts.queues ask m new.parts.queues answer h.whole made.queues k)
       ∙ ap (λ j. j + (if nat_le w.parts.queues.next_receipt k && nat_lt k new.parts.queues.next_receipt then 1 else 0)) (h.receipts k)
@@ -329,7 +327,3 @@ told_none = record { whole = Whole-none; births = nothing_below_1; receipts = no
 
 pub told : (history : List Entry) → Told (trace history) (replay history)
 told history = kept_by_all Told told_kept told_none history
-
--- the queues of a faithful state are whole
-pub whole_state : (s : HubState) → IsFaithful s → IsWhole s.stores.queues.part
-whole_state s faithful = subst (λ (w : World). IsWhole w.parts.queues) (sym faithful.world) (told s.history).whole

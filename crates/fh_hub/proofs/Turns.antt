@@ -1,6 +1,5 @@
 -- Numbers and receipts are given in turn, each once.
-use Rattle.std.proofs.Common.{◌≡◌, ℕ, ◌≤◌, Bool, true, false, List, arith}
-use Rattle.std.specs.Prelude.{◌&&◌, nat_le, nat_lt, if◌then◌else◌}
+use Rattle.std.proofs.Common.{◌≡◌, ℕ, ◌≤◌, List, arith}
 use Rattle.std.proofs.lemmas.Bool.Decides.{nat_tests}
 use Rattle.fh_hub.specs.Replay.{Entry, trace, replay}
 use Rattle.fh_hub.specs.Laws.{births, receipts, IsGivenInTurn}

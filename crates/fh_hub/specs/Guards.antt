@@ -1,5 +1,5 @@
 -- Who changes a message: the law of receipts, of one event.
-use Rattle.std.specs.Prelude.{◌≡◌, ℕ, Bool, true, false, List, ◌++◌, Some}
+use Rattle.std.specs.Prelude.{◌≡◌, ℕ, true, false, List, ◌++◌, Some}
 use Rattle.fh_queues.specs.declared.row.Message.{Message}
 use Rattle.fh_queues.specs.Rows.{is_live, row_of}
 use Rattle.fh_queues.specs.Receipts.{Rises}

@@ -12,7 +12,7 @@ use Rattle.fh_disk.specs.Disk.{OnlyTold}
 use Rattle.fh_disk.specs.Moments.{LeavesOnly}
 use Rattle.fh_disk.specs.declared.disk.Disk.{Ghosts}
 use Rattle.fh_hub.specs.declared.hub.Hub.{Hub}
-use Rattle.fh_hub.specs.Replay.{Entry, bytes_of, payloads_of, IsLegal}
+use Rattle.fh_hub.specs.Replay.{Entry, bytes_of, payloads_of}
 
 -- the machine's answer: a reply or a rule
 abbrev pub answer : Stepped → Result Reply Rule
@@ -45,11 +45,10 @@ HasStepCause before now DiskFault = Rose before now
 abbrev pub StandsForHistory : List Entry → List ℕ → Type 0
 StandsForHistory history file = IsJournalOf file (payloads_of history)
 
--- where the bytes are told, they and each image stand for this history, or where the journal is torn also for the
--- legal one that has the failed entry behind it
-pub record KeepsHistory (told : Option (List ℕ)) (images : List ℕ → Type 0) (torn : Bool) (history : List Entry) (failed : Entry) (gate : ℕ) : Type 0 where
-  pub keeps : Keeps told images torn (payloads_of history) (bytes_of failed) gate
-  pub legal : torn ≡ true → IsLegal (history ++ failed ∷ [])
+-- where the bytes are told, they and each image stand for this history, or where the journal is torn also for the one
+-- that has the failed entry behind it
+abbrev pub KeepsHistory : Option (List ℕ) → (List ℕ → Type 0) → Bool → List Entry → Entry → ℕ → Type 0
+KeepsHistory told images torn history failed gate = Keeps told images torn (payloads_of history) (bytes_of failed) gate
 
 -- what a crash during a step may be read as: the history from before, the one with the step's entries, or, where the
 -- journal was torn, the one with the entry that had failed

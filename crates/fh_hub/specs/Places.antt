@@ -1,5 +1,5 @@
 -- Where each message stands, by the events of a trace, the world and a moment.
-use Rattle.std.specs.Prelude.{◌≡◌, ℕ, ◌+◌, nat_le, nat_lt, Bool, true, false, not, ◌&&◌, ◌||◌, ◌↔◌, if◌then◌else◌, List, [], fold, find, Option, Some, None, is_some}
+use Rattle.std.specs.Prelude.{◌≡◌, ℕ, ◌+◌, nat_le, nat_lt, Bool, true, false, not, ◌&&◌, ◌||◌, ◌↔◌, List, [], fold, find, Option, Some, None, is_some}
 use Rattle.std.specs.List.{list_any}
 use Rattle.fh_event.specs.declared.reply.Place.{Place}
 use Rattle.fh_event.specs.declared.reply.Place.TheVariants as place

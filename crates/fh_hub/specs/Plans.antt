@@ -3,13 +3,12 @@ use Rattle.std.specs.Prelude.{◌≡◌, ⊤, ℕ, ◌≤◌, length}
 use Rattle.fh_event.specs.declared.command.Command.{Command}
 use Rattle.fh_event.specs.declared.faults.PlanFault.{PlanFault}
 use Rattle.fh_event.specs.declared.faults.PlanFault.TheVariants.{Rule as OfRule, NoMemory}
-use Rattle.fh_event.specs.Entries.{entry}
+use Rattle.fh_event.specs.Entries.{entry, IsEntry}
 use Rattle.fh_hub.specs.Stores.{Asks, outcomes, too_full}
 use Rattle.fh_hub.specs.StoreEdits.{parts_of, changed, answered}
 use Rattle.fh_hub.specs.StoreEdits as store_edits
 use Rattle.fh_hub.specs.World.{Stepped, Refused, Read, Quieted, recorded, judged, effective_moment}
-use Rattle.fh_hub.specs.Replay.{Entry, entry_for}
-use Rattle.fh_hub.specs.History.{entry_of}
+use Rattle.fh_hub.specs.Replay.{Entry, bytes_of, entry_for}
 use Rattle.fh_hub.specs.State.{HubState, world_of, IsPlanned}
 use Rattle.fh_hub.specs.declared.plan.Change.{Change}
 use Rattle.fh_hub.specs.declared.plan.Staged.{Staged}
@@ -27,15 +26,14 @@ step_of_asks s command asks m =
 
 -- the change is what the machine makes of this entry
 abbrev pub IsPlannedAs : HubState → Change → Entry → Type 0
-IsPlannedAs s change e = IsPlanned s (changed (parts_of s.stores) change.stores) (answered change.stores) change.payload e
+IsPlannedAs s change e = IsPlanned s (changed (parts_of s.stores) change.stores) (answered change.stores) e
 
 -- the change is recorded, as this entry
 pub record IsChangeFor (s : HubState) (stepped : Stepped) (e : Entry) (change : Change) : Type 0 where
   pub steps :
       stepped
-      ≡ recorded (world_of s) e.moment (length change.payload) (changed (parts_of s.stores) change.stores) (answered change.stores)
+      ≡ recorded (world_of s) e.moment (length (bytes_of e)) (changed (parts_of s.stores) change.stores) (answered change.stores)
   pub moment : change.moment ≡ e.moment
-  pub entry : entry_of change.payload ≡ e
   pub planned : IsPlannedAs s change e
 
 -- the plan of a step with this answer, whose entry is this one where it is recorded
@@ -51,7 +49,8 @@ IsFaultOfStep NoMemory stepped = ⊤
 
 -- a staged change is what the machine makes of an entry, and has its memory
 pub record IsStaged (s : HubState) (staged : Staged) (e : Entry) : Type 0 where
-  pub planned : IsPlanned s (store_edits.made s.stores staged.stores) (store_edits.made_done s.stores staged.stores) staged.payload e
+  pub planned : IsPlanned s (store_edits.made s.stores staged.stores) (store_edits.made_done s.stores staged.stores) e
   pub moment : staged.moment ≡ e.moment
+  pub spelled : IsEntry staged.payload e.moment e.command
   pub stores : store_edits.IsStaged s.stores staged.stores
   pub room : 1 ≤ s.room

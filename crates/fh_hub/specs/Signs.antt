@@ -10,7 +10,7 @@ use Rattle.fh_queues.specs.declared.row.Message.{Message}
 use Rattle.fh_queues.specs.Rows.{is_of, is_visible, row_in}
 use Rattle.fh_queues.specs.Outcome.{after, expiry_after}
 use Rattle.fh_queues.specs.Receipts.{is_named}
-use Rattle.fh_hub.specs.World.{World, effective_moment}
+use Rattle.fh_hub.specs.World.{effective_moment}
 use Rattle.fh_hub.specs.Replay.{Event}
 
 pub record Signs : Type 0 where

@@ -1,11 +1,12 @@
 -- The world, and one step of it. A step is judged in this order: the moment, the name of the queue, the rules of the
--- stores, the answers that change nothing, what a store is too full for, and the room in the journal. What is left then
--- is recorded.
-use Rattle.std.specs.Prelude.{ℕ, ◌+◌, max, nat_le, nat_lt, if◌then◌else◌, List, [], length, Option, Some, None, Result, Ok, Err}
+-- stores, the answers that change nothing, the size of the entry, what a store is too full for, and the room in the
+-- journal. What is left then is recorded.
+use Rattle.std.specs.Prelude.{ℕ, ◌-◌, ◌^◌, min, max, nat_le, nat_lt, if◌then◌else◌, List, [], ◌∷◌, length, Option, Some, None, option_map, Result, Ok, Err}
+use Rattle.fh_base.specs.Limits.{longest_payload}
 use Rattle.fh_base.specs.Moments.{greatest_moment}
 use Rattle.fh_base.specs.Names.{is_queue_name}
 use Rattle.fh_base.specs.declared.rule.Rule.{Rule}
-use Rattle.fh_base.specs.declared.rule.Rule.TheVariants.{MomentTooLate, BadName, JournalFull}
+use Rattle.fh_base.specs.declared.rule.Rule.TheVariants.{MomentTooLate, BadName, TooLarge, JournalFull}
 use Rattle.fh_event.specs.declared.command.Command.{Command}
 use Rattle.fh_event.specs.declared.command.Command.TheVariants.{MakeQueue, Put, Take, Update, Delete, Clear, Peek, Locate}
 use Rattle.fh_event.specs.declared.reply.Item.{Item}
@@ -20,6 +21,8 @@ use Rattle.fh_queues.specs.Asks.{Ask}
 use Rattle.fh_queues.specs.Asks as asks
 use Rattle.fh_queues.specs.Outcome.{peeked}
 use Rattle.fh_queues.specs.Places.{place_of}
+use Rattle.fh_queues.specs.Rules.{first_broken}
+use Rattle.fh_journal.specs.Journal.{first_gate, gate_behind, full_at}
 use Rattle.fh_hub.specs.Stores.{Parts, no_parts, Asks, Done, outcomes, too_full}
 
 -- the stores' parts, the place of the journal's next gate, and the moment of the last entry
@@ -28,9 +31,9 @@ pub record World : Type 0 where
   pub gate : ℕ
   pub last : ℕ
 
--- before the first entry: the first gate stands behind a header of 6 bytes
+-- before the first entry
 abbrev pub empty : World
-empty = record { parts = no_parts; gate = 6; last = 0 }
+empty = record { parts = no_parts; gate = first_gate; last = 0 }
 
 -- a command acts at the greater of the moment handed in and that of the last entry
 abbrev pub effective_moment : World → ℕ → ℕ
@@ -103,17 +106,21 @@ reply_of_queues done.Swept = replies.Empty
 abbrev pub reply_of : Done → Reply
 reply_of answer = reply_of_queues answer.queues
 
--- the most bytes of a journal
-abbrev pub most_bytes : ℕ
-most_bytes = 1073741824
+-- an entry has at most as many bytes as a frame's payload may have
+abbrev pub size_rule : ℕ → Option Rule
+size_rule size = if nat_lt longest_payload size then Some (TooLarge (min size (2 ^ 64 - 1)) longest_payload) else None
 
 -- the journal has room for the entry and the gate behind it, or is full
 abbrev pub room_rule : ℕ → ℕ → Option Rule
-room_rule gate size = if nat_lt most_bytes (gate + 6 + size) then Some (JournalFull gate) else None
+room_rule gate size = option_map (λ length. JournalFull length) (full_at gate size)
 
--- the world with the stores as an entry of so many bytes left them; a gate and a length, 5 bytes, precede the entry
+-- what an entry of so many bytes is too large for, or its stores or the journal too full for
+abbrev pub full_rule : ℕ → ℕ → Option Rule → Option Rule
+full_rule gate size full = first_broken (size_rule size ∷ full ∷ room_rule gate size ∷ [])
+
+-- the world with the stores as an entry of so many bytes left them
 abbrev pub world_with : World → Parts → ℕ → ℕ → World
-world_with w parts m size = record { parts = parts; gate = w.gate + 5 + size; last = m }
+world_with w parts m size = record { parts = parts; gate = gate_behind w.gate size; last = m }
 
 -- the recorded step of what the stores make, by the moment and the size of its entry
 abbrev pub recorded : World → ℕ → ℕ → Parts → Done → Stepped
@@ -123,13 +130,13 @@ abbrev pub unless_full : Option Rule → Stepped → Stepped
 unless_full None stepped = stepped
 unless_full (Some rule) stepped = Refused rule
 
--- refused by the first rule of the stores, answered without an entry where nothing changes, refused where a store or
--- the journal is too full, and else recorded
+-- refused by the first rule of the stores, answered without an entry where nothing changes, refused where the entry is
+-- too large or a store or the journal is too full, and else recorded
 abbrev pub judged : World → ℕ → ℕ → Option Rule → Judged Parts Done → Stepped
 judged w m size full (judging.Refuses rule) = Refused rule
 judged w m size full (judging.Quiets answer) = Quieted (reply_of answer)
 judged w m size full (judging.Makes parts answer) =
-    unless_full full (unless_full (room_rule w.gate size) (recorded w m size parts answer))
+    unless_full (full_rule w.gate size full) (recorded w m size parts answer)
 
 -- the step that a command makes from what it asks
 abbrev pub stepped_by : World → ℕ → ℕ → Asked → Stepped

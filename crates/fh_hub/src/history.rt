@@ -4,8 +4,7 @@ ghost use Rattle.std.specs.List.{HoldsAt};
 ghost use Rattle.fh_hub.specs.Replay.{bytes_of};
 ghost use Rattle.fh_hub.specs.History.{entry_of, IsSpelled};
 
-use fh_base::NoMemory;
-use fh_journal::Payload;
+use fh_base::{Bytes, NoMemory};
 use std::alloc::Global;
 use std::marker::Model;
 
@@ -13,7 +12,7 @@ use std::marker::Model;
 /// the bytes of their journal entries.
 #[derive(Drop)]
 pub struct History {
-    payloads: Vec<Payload>,
+    payloads: Vec<Bytes>,
 }
 
 impl Model for History {
@@ -73,7 +72,7 @@ impl History {
     }
 
     /// Adds the entry that these bytes spell. There has to be room for it.
-    pub(crate) fn add(&mut self, payload: Payload)
+    pub(crate) fn add(&mut self, payload: Bytes)
         requires spelled { IsSpelled payload }
         requires room { 1 ≤ self.old.room }
         ensures { self.new.entries ≡ self.old.entries ++ entry_of payload ∷ [] }

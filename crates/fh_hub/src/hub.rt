@@ -6,8 +6,8 @@ use crate::faults::HubFault;
 use crate::history::History;
 use crate::mounting::prepare;
 use crate::plan::{Change, Plan};
-use crate::state::State;
-use fh_base::Moment;
+use crate::state::{State, payload_of};
+use fh_base::{Bytes, Moment};
 use fh_disk::Disk;
 use fh_event::{Command, Place, Reply, StepFault};
 use fh_journal::Journal;
@@ -32,7 +32,8 @@ impl<'d, J: Disk> Hub<'d, J> {
     ghost use Rattle.fh_journal.specs.Mounting.{IsBeingMade};
     ghost use Rattle.fh_queues.specs.Places.{place_of};
     ghost use Rattle.fh_hub.specs.World.{Recorded, step, effective_moment};
-    ghost use Rattle.fh_hub.specs.Replay.{Entry, payloads_of, world_after, noted};
+    ghost use Rattle.fh_event.specs.Entries.{IsEntry};
+    ghost use Rattle.fh_hub.specs.Replay.{Entry, payloads_of, world_after, noted, IsLegal};
     ghost use Rattle.fh_hub.specs.State.{world_of, IsFaithful, IsIdle, IsUnchanged};
     ghost use Rattle.fh_hub.specs.Plans.{entry_at, IsPlannedAs};
     ghost use Rattle.fh_hub.specs.Hub.{Answers, HasStepCause, IsDurable, KeepsIn, LeavesSince, MayStandFor, StandsForHistory, faults_of, is_recorded};
@@ -100,10 +101,9 @@ impl<'d, J: Disk> Hub<'d, J> {
         }
     }
 
-    /// The history, of which the world is the replay.
+    /// The history.
     pub fn history(&self) -> &History
-        ensures entries { result.now.entries ≡ self.now.state.history }
-        ensures faithful { IsFaithful self.now.state }
+        ensures { result.now.entries ≡ self.now.state.history }
     {
         self.state.history()
     }
@@ -138,6 +138,9 @@ impl<'d, J: Disk> Hub<'d, J> {
             ≡ world_after (world_of self.old.state) (step (world_of self.old.state) command.now now)) }
         ensures history { OnOk result (self.new.state.history
             ≡ self.old.state.history ++ noted (world_of self.old.state) command.now now) }
+        ensures faithful { IsFaithful self.old.state → IsFaithful self.new.state }
+        ensures legal { IsErrOf result StepFault.DiskFault → IsFaithful self.old.state
+            → IsLegal (self.old.state.history ++ entry_at self.old.state command.now now ∷ []) }
         ensures fault { OnErr result (IsUnchanged self.old.state self.new.state) }
         ensures untouched { is_recorded (step (world_of self.old.state) command.now now) ≡ false
             → (self.new.journal.disk.now ≡ self.old.journal.disk.now)
@@ -162,19 +165,25 @@ impl<'d, J: Disk> Hub<'d, J> {
     {
         match self.state.plan(alloc, command, now)? {
             Plan::Reads(reply) | Plan::Quiet(reply) => Ok(reply),
-            Plan::Records(change) => self.record(change),
+            Plan::Records(change) => {
+                let payload = payload_of(alloc, command, change.moment)?;
+                self.record(change, payload)
+            }
         }
     }
 
     // Records a change: it is staged, its entry is appended, and then it is settled.
     #[tactic(auto, using(crate::proofs::Crashes::stays_as_told))]
-    fn record(&mut self, change: Change) -> Result<Reply, StepFault>
+    fn record(&mut self, change: Change, payload: Bytes) -> Result<Reply, StepFault>
         ghost e: { Entry }
         requires planned { IsPlannedAs self.old.state change e }
         requires moment { change.moment ≡ e.moment }
+        requires spelled { IsEntry payload e.moment e.command }
         ensures reply { IfOk result (λ reply. step (world_of self.old.state) e.command e.moment
             ≡ Recorded (world_of self.new.state) reply) }
         ensures history { OnOk result (self.new.state.history ≡ self.old.state.history ++ e ∷ []) }
+        ensures faithful { IsFaithful self.old.state → IsFaithful self.new.state }
+        ensures legal { IsFaithful self.old.state → IsLegal (self.old.state.history ++ e ∷ []) }
         ensures fault { OnErr result (IsUnchanged self.old.state self.new.state) }
         ensures passed { OnOk result (faults_of self.new ≡ faults_of self.old) }
         ensures memory { IsErrOf result StepFault.NoMemory
@@ -191,7 +200,7 @@ impl<'d, J: Disk> Hub<'d, J> {
         ensures count { faults_of self.old ≤ faults_of self.new }
         ensures same { self.new.journal.disk.ghost_name ≡ self.old.journal.disk.ghost_name }
     {
-        let staged = self.state.stage(change)?;
+        let staged = self.state.stage(change, payload)?;
         let payload = staged.payload.as_slice();
         if self.journal.reserve(payload.len()).is_err() {
             self.state.unstage(staged);

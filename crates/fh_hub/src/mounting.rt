@@ -3,6 +3,7 @@ ghost use Rattle.std.specs.Prelude.{◌≡◌, ◌⊎◌, ◌≤◌, ◌∷◌, 
 ghost use Rattle.fh_disk.specs.Disk.{OnlyTold};
 ghost use Rattle.fh_disk.specs.Moments.{LeavesOnly};
 ghost use Rattle.fh_journal.specs.Frames.{payloads_of as payloads_in, frames_from};
+ghost use Rattle.fh_journal.specs.Journal.{first_gate};
 ghost use Rattle.fh_journal.specs.Keeping.{Keeps, StaysTold};
 ghost use Rattle.fh_journal.specs.Mounting.{IsBeingMade};
 ghost use Rattle.fh_hub.specs.Replay.{Entry, entry_for, payloads_of};
@@ -16,10 +17,10 @@ ghost use Rattle.fh_hub.specs.Mounting.{CountsFaults, HasEntryReason, HasPlanRea
 use crate::faults::{EntryFault, HubFault};
 use crate::plan::{Change, Plan};
 use crate::state::State;
-use fh_base::{Moment, NoMemory};
+use fh_base::{Bytes, Moment, NoMemory};
 use fh_disk::Disk;
 use fh_event::{Command, EventFault, decode};
-use fh_journal::{Frame, Payload};
+use fh_journal::Frame;
 use std::alloc::Global;
 
 /// Mounts a journal: its frames are read, and their entries are replayed. It begins with a sync. A file of
@@ -46,16 +47,16 @@ pub fn prepare<J: Disk>(alloc: Global, disk: &mut J) -> Result<State, HubFault>
     ensures count { J.disk_faults disk.old ≤ J.disk_faults disk.new }
 {
     let prepared = fh_journal::prepare(alloc, disk)?;
-    replayed(alloc, prepared.frames.as_slice())
+    replayed(alloc, prepared.frames.into_vec())
 }
 
 // The state that the entries of frames give.
-fn replayed(alloc: Global, frames: &[Frame]) -> Result<State, HubFault>
-    requires { frames.now ≡ frames_from 6 (payloads_in frames.now) }
-    ensures history { IfOk result (λ state. payloads_of state.history ≡ payloads_in frames.now) }
+fn replayed(alloc: Global, frames: Vec<Frame>) -> Result<State, HubFault>
+    requires { frames.items ≡ frames_from first_gate (payloads_in frames.items) }
+    ensures history { IfOk result (λ state. payloads_of state.history ≡ payloads_in frames.items) }
     ensures faithful { IfOk result IsFaithful }
     ensures idle { IfOk result IsIdle }
-    ensures reason { IfErr result (HasReplayReason (payloads_in frames.now)) }
+    ensures reason { IfErr result (HasReplayReason (payloads_in frames.items)) }
 {
     let mut state = State::new(alloc);
     match state.replay(alloc, frames) {
@@ -66,43 +67,52 @@ fn replayed(alloc: Global, frames: &[Frame]) -> Result<State, HubFault>
 
 impl State {
     // Replays the entries of frames from the first on.
-    fn replay(&mut self, alloc: Global, frames: &[Frame]) -> Result<(), HubFault>
+    fn replay(&mut self, alloc: Global, frames: Vec<Frame>) -> Result<(), HubFault>
         requires begun { self.old.history ≡ [] }
         requires idle { IsIdle self.old }
         requires faithful { IsFaithful self.old }
-        requires places { frames.now ≡ frames_from 6 (payloads_in frames.now) }
-        ensures history { OnOk result (payloads_of self.new.history ≡ payloads_in frames.now) }
+        requires places { frames.items ≡ frames_from first_gate (payloads_in frames.items) }
+        ensures history { OnOk result (payloads_of self.new.history ≡ payloads_in frames.items) }
         ensures faithful { IsFaithful self.new }
         ensures idle { IsIdle self.new }
-        ensures reason { IfErr result (HasReplayReason (payloads_in frames.now)) }
+        ensures reason { IfErr result (HasReplayReason (payloads_in frames.items)) }
     {
         for frame in frames {
-            if let Err(fault) = self.replay_entry(alloc, &frame.payload) {
-                return Err(fault.at(frame.at));
+            let Frame { at, payload } = frame;
+            if let Err(fault) = self.replay_entry(alloc, payload) {
+                return Err(fault.at(at));
             }
         }
         Ok(())
     }
 
     // Replays the entry that a payload spells.
-    fn replay_entry(&mut self, alloc: Global, payload: &Payload) -> Result<(), EntryFault>
+    fn replay_entry(&mut self, alloc: Global, payload: Bytes) -> Result<(), EntryFault>
         requires idle { IsIdle self.old }
         requires faithful { IsFaithful self.old }
         ensures history { OnOk result
-            (payloads_of self.new.history ≡ payloads_of self.old.history ++ payload.now ∷ []) }
+            (payloads_of self.new.history ≡ payloads_of self.old.history ++ payload ∷ []) }
         ensures refused { OnErr result (self.new.history ≡ self.old.history) }
         ensures faithful { IsFaithful self.new }
         ensures idle { IsIdle self.new }
-        ensures reason { IfErr result (HasEntryReason self.old.history payload.now) }
+        ensures reason { IfErr result (HasEntryReason self.old.history payload) }
     {
         let (moment, command) = entry_of(alloc, payload.as_slice())?;
-        self.record(alloc, &command, moment)
+        self.record(alloc, &command, moment, payload)
     }
 
-    // Records a command that acts at its own moment.
-    fn record(&mut self, alloc: Global, command: &Command, moment: Moment) -> Result<(), EntryFault>
+    // Records a command that acts at its own moment, and whose entry has these bytes.
+    fn record(
+        &mut self,
+        alloc: Global,
+        command: &Command,
+        moment: Moment,
+        payload: Bytes,
+    ) -> Result<(), EntryFault>
         requires idle { IsIdle self.old }
         requires faithful { IsFaithful self.old }
+        requires spelled { IsEntry payload moment command.now }
+        requires entry { entry_of payload ≡ entry_for command.now moment }
         ensures history { OnOk result
             (self.new.history ≡ self.old.history ++ entry_for command.now moment ∷ []) }
         ensures refused { OnErr result (self.new.history ≡ self.old.history) }
@@ -111,7 +121,7 @@ impl State {
         ensures reason { IfErr result (HasPlanReason (world_of self.old) (entry_for command.now moment)) }
     {
         let change = self.plan_entry(alloc, command, moment)?;
-        Ok(self.make(change)?)
+        Ok(self.make(change, payload)?)
     }
 
     // The change of an entry that is recorded at its own moment.
@@ -123,7 +133,7 @@ impl State {
     ) -> Result<Change, EntryFault>
         requires { IsIdle self.now }
         ensures change { IfOk result (λ change. IsPlannedAs self.now change (entry_for command.now moment)
-            × (change.moment ≡ moment) × (entry_of change.payload ≡ entry_for command.now moment)) }
+            × (change.moment ≡ moment)) }
         ensures reason { IfErr result (HasPlanReason (world_of self.now) (entry_for command.now moment)) }
     {
         if moment.ms() < self.last() {
@@ -135,19 +145,20 @@ impl State {
         }
     }
 
-    // Makes a change at once.
-    fn make(&mut self, change: Change) -> Result<(), NoMemory>
+    // Makes a change whose entry has these bytes at once.
+    fn make(&mut self, change: Change, payload: Bytes) -> Result<(), NoMemory>
         ghost e: { Entry }
         requires idle { IsIdle self.old }
         requires faithful { IsFaithful self.old }
         requires planned { IsPlannedAs self.old change e }
         requires moment { change.moment ≡ e.moment }
+        requires spelled { IsEntry payload e.moment e.command }
         ensures history { OnOk result (self.new.history ≡ self.old.history ++ e ∷ []) }
         ensures refused { OnErr result (self.new.history ≡ self.old.history) }
         ensures faithful { IsFaithful self.new }
         ensures idle { IsIdle self.new }
     {
-        let staged = self.stage(change)?;
+        let staged = self.stage(change, payload)?;
         let _reply = self.settle(staged);
         Ok(())
     }
@@ -155,7 +166,8 @@ impl State {
 
 // The moment and the command that bytes spell.
 fn entry_of(alloc: Global, bytes: &[u8]) -> Result<(Moment, Command), EntryFault>
-    ensures entry { IfOk result (λ e. IsEntry bytes.now e.0 e.1) }
+    ensures spelled { IfOk result (λ e. IsEntry bytes.now e.0 e.1) }
+    ensures entry { IfOk result (λ e. entry_of bytes.now ≡ entry_for e.1 e.0) }
     ensures reason { IfErr result (HasReadReason bytes.now) }
 {
     match decode(alloc, bytes) {

@@ -1,21 +1,19 @@
 // What a command comes to.
 use crate::stores::{StagedStores, StoreChanges};
-use fh_base::Moment;
+use fh_base::{Bytes, Moment};
 use fh_event::Reply;
-use fh_journal::Payload;
 
-/// A change of the stores and the history, with the bytes of its entry. It may be dropped.
+/// A change of the stores at a moment. It may be dropped.
 #[derive(Drop)]
 pub struct Change {
     pub(crate) stores: StoreChanges,
-    pub(crate) payload: Payload,
     pub(crate) moment: Moment,
 }
 
-/// A change that has its memory. It has to be settled or unstaged.
+/// A change that has its memory, with the bytes of its entry. It has to be settled or unstaged.
 pub struct Staged {
     pub(crate) stores: StagedStores,
-    pub(crate) payload: Payload,
+    pub(crate) payload: Bytes,
     pub(crate) moment: Moment,
 }
 

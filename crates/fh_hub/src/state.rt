@@ -1,10 +1,12 @@
 // What a hub keeps in memory.
-ghost use Rattle.std.specs.Prelude.{◌≡◌, ◌+◌, ◌≤◌, ◌∷◌, ◌++◌, [], max, length, IfOk, IfErr, OnOk, OnErr};
+ghost use Rattle.std.specs.Prelude.{◌≡◌, ℕ, ◌-◌, ◌^◌, ◌≤◌, ◌∷◌, ◌++◌, [], min, max, length, IfOk, IfErr, OnErr};
 ghost use Rattle.fh_base.specs.Moments.{greatest_moment};
-ghost use Rattle.fh_event.specs.Entries.{entry, IsEntry, HasShortTexts};
+ghost use Rattle.fh_event.specs.Entries.{IsEntry, HasShortTexts};
+ghost use Rattle.fh_journal.specs.Journal.{gate_behind};
 ghost use Rattle.fh_queues.specs.Places.{place_of};
-ghost use Rattle.fh_hub.specs.World.{Recorded, AsksAll, asked, empty, step, step_at, reply_of, effective_moment};
-ghost use Rattle.fh_hub.specs.Replay.{Entry, entry_for, IsLegal};
+ghost use Rattle.fh_hub.specs.World.{Recorded, AsksAll, asked, empty, step, step_at, reply_of, effective_moment, full_rule, size_rule};
+ghost use Rattle.fh_hub.specs.History.{entry_of};
+ghost use Rattle.fh_hub.specs.Replay.{Entry, entry_for};
 ghost use Rattle.fh_hub.specs.State.{world_of, IsIdle, IsUnchanged, IsFaithful};
 ghost use Rattle.fh_hub.specs.StoreEdits.{asks_of, done_of, parts_of};
 ghost use Rattle.fh_hub.specs.Plans.{entry_at, step_of_asks, IsPlanFor, IsPlannedAs, IsFaultOfStep, IsStaged};
@@ -13,18 +15,12 @@ use crate::asking::Asked;
 use crate::history::History;
 use crate::plan::{Change, Plan, Staged};
 use crate::stores::{StoreAsks, Stores, StoresDone};
-use fh_base::{Moment, NoMemory, Rule};
-use fh_event::{Command, Place, PlanFault, Reply, encode};
-use fh_journal::{Payload, room_behind};
+use fh_base::{Bytes, LONGEST_PAYLOAD, Moment, NoMemory, Rule};
+use fh_event::{Command, Place, PlanFault, Reply, encode, entry_size};
+use fh_journal::{FIRST_GATE, gate_behind, room_behind};
 use fh_queues::QueueDone;
 use std::alloc::Global;
 use std::marker::Model;
-
-/// The place of the first gate.
-const FIRST_GATE: u64 = 6;
-
-/// What a frame has beside its payload: a gate and a length.
-const AROUND: u64 = 5;
 
 /// The stores, the last moment, the place of the journal's next gate, and the history.
 #[derive(Drop)]
@@ -36,7 +32,7 @@ pub struct State {
 }
 
 impl Model for State {
-    ghost use Rattle.fh_hub.specs.State.{HubState, IsFaithful};
+    ghost use Rattle.fh_hub.specs.State.{HubState, IsBounded};
 
     ghost Value = { HubState };
 
@@ -48,7 +44,7 @@ impl Model for State {
       room = s.history.room;
     } };
 
-    ghost invariant = { λ s. IsFaithful (record {
+    ghost invariant = { λ s. IsBounded (record {
       stores = s.stores;
       last = s.last;
       gate = s.gate;
@@ -73,10 +69,9 @@ impl State {
         }
     }
 
-    /// The history, of which the world is the replay.
+    /// The history.
     pub fn history(&self) -> &History
-        ensures entries { result.now.entries ≡ self.now.history }
-        ensures faithful { IsFaithful self.now }
+        ensures { result.now.entries ≡ self.now.history }
     {
         &self.history
     }
@@ -153,39 +148,41 @@ impl State {
         if stores.is_quiet() {
             return Ok(Plan::Quiet(reply_of(stores.into_done())));
         }
-        if let Some(rule) = self.stores.too_full(asks, m) {
+        let full = self.stores.too_full(asks, m);
+        if let Some(rule) = self.full_rule(entry_size(command), full) {
             return Err(PlanFault::Rule(rule));
         }
-        let payload = payload_of(alloc, command, m)?;
-        if let Some(length) = room_behind(self.gate, payload.as_slice().len() as u64) {
-            return Err(PlanFault::Rule(Rule::JournalFull { length }));
-        }
-        Ok(Plan::Records(Change {
-            stores,
-            payload,
-            moment: m,
-        }))
+        Ok(Plan::Records(Change { stores, moment: m }))
     }
 
-    /// Takes all the memory of a change.
-    pub fn stage(&mut self, change: Change) -> Result<Staged, NoMemory>
+    // What an entry of so many bytes is too large for, or its stores or the journal too full for.
+    fn full_rule(&self, size: u64, full: Option<Rule>) -> Option<Rule>
+        ensures { (long : ℕ) → size ≡ min long (2 ^ 64 - 1) → result ≡ full_rule self.now.gate long full }
+    {
+        if let Some(rule) = size_rule(size) {
+            return Some(rule);
+        }
+        if full.is_some() {
+            return full;
+        }
+        let length = room_behind(self.gate, size)?;
+        Some(Rule::JournalFull { length })
+    }
+
+    /// Takes all the memory of a change whose entry has these bytes.
+    pub fn stage(&mut self, change: Change, payload: Bytes) -> Result<Staged, NoMemory>
         ghost e: { Entry }
         requires idle { IsIdle self.old }
         requires planned { IsPlannedAs self.old change e }
         requires moment { change.moment ≡ e.moment }
+        requires spelled { IsEntry payload e.moment e.command }
         ensures same { IsUnchanged self.old self.new }
         ensures err { OnErr result (IsIdle self.new) }
         ensures ok { IfOk result
-            (λ staged. IsStaged self.new staged e × (staged.payload ≡ change.payload)) }
-        ensures legal { OnOk result (IsLegal (self.old.history ++ e ∷ [])) }
+            (λ staged. IsStaged self.new staged e × (staged.payload ≡ payload)) }
         ensures gate { self.new.gate ≡ self.old.gate }
-        ensures faithful { IsFaithful self.new }
     {
-        let Change {
-            stores,
-            payload,
-            moment,
-        } = change;
+        let Change { stores, moment } = change;
         self.history.reserve()?;
         let stores = self.stores.stage(stores)?;
         Ok(Staged {
@@ -202,8 +199,8 @@ impl State {
         ensures step { step (world_of self.old) e.command e.moment ≡ Recorded (world_of self.new) result }
         ensures idle { IsIdle self.new }
         ensures history { self.new.history ≡ self.old.history ++ e ∷ [] }
-        ensures gate { self.new.gate ≡ self.old.gate + 5 + length staged.payload }
-        ensures faithful { IsFaithful self.new }
+        ensures gate { self.new.gate ≡ gate_behind self.old.gate (length staged.payload) }
+        ensures faithful { IsFaithful self.old → IsFaithful self.new }
     {
         let Staged {
             stores,
@@ -212,7 +209,7 @@ impl State {
         } = staged;
         let done = self.stores.settle(stores);
         self.last = moment.ms();
-        self.gate += AROUND + payload.as_slice().len() as u64;
+        self.gate = gate_behind(self.gate, payload.len() as u64);
         self.history.add(payload);
         reply_of(done)
     }
@@ -260,12 +257,26 @@ fn reply_of(done: StoresDone) -> Reply
     }
 }
 
-// The bytes of a command's entry.
-fn payload_of(alloc: Global, command: &Command, m: Moment) -> Result<Payload, NoMemory>
+// An entry is too large for a frame.
+fn size_rule(size: u64) -> Option<Rule>
+    ensures { (long : ℕ) → size ≡ min long (2 ^ 64 - 1) → result ≡ size_rule long }
+{
+    if (LONGEST_PAYLOAD as u64) < size {
+        return Some(Rule::TooLarge {
+            size,
+            limit: LONGEST_PAYLOAD as u64,
+        });
+    }
+    None
+}
+
+/// The bytes of a command's entry.
+pub(crate) fn payload_of(alloc: Global, command: &Command, m: Moment) -> Result<Bytes, NoMemory>
     requires { HasShortTexts command.now }
-    ensures { IfOk result (λ payload. (payload ≡ entry m command.now) × IsEntry payload m command.now) }
+    ensures spelled { IfOk result (λ payload. IsEntry payload m command.now) }
+    ensures entry { IfOk result (λ payload. entry_of payload ≡ entry_for command.now m) }
 {
     let mut bytes = Vec::new(alloc);
     encode(command, m, &mut bytes)?;
-    Ok(Payload::new(bytes))
+    Ok(Bytes::new(bytes))
 }

@@ -1,7 +1,8 @@
 -- What the bytes of a journal stand for.
-use Rattle.std.specs.Prelude.{◌≡◌, ◌≢◌, ◌⊎◌, ◌≤◌, ℕ, Bool, true, false, List, [], ◌∷◌, ◌++◌, length}
+use Rattle.std.specs.Prelude.{◌≡◌, ◌≢◌, ◌⊎◌, ◌≤◌, ℕ, ◌+◌, nat_lt, Bool, true, false, if◌then◌else◌, List, [], ◌∷◌, ◌++◌, length, Option, Some, None}
 use Rattle.std.specs.List.{flat_map, All}
 use Rattle.std.specs.Int.{w32, to_be_bytes}
+use Rattle.fh_base.specs.Limits.{longest_payload}
 
 -- the letters FNHJ, and version 1 in two bytes
 abbrev pub header : List ℕ
@@ -15,9 +16,25 @@ frame payload = 1 ∷ to_be_bytes w32 (length payload) ++ payload
 abbrev pub opened : List (List ℕ) → List ℕ
 opened payloads = header ++ flat_map frame payloads
 
+-- the first gate stands behind the header
+abbrev pub first_gate : ℕ
+first_gate = 6
+
+-- the place of the gate behind a frame with so many bytes of payload: the frame's own gate and the length precede them
+abbrev pub gate_behind : ℕ → ℕ → ℕ
+gate_behind gate size = gate + 5 + size
+
+-- the most bytes of a journal
+abbrev pub most_bytes : ℕ
+most_bytes = 1073741824
+
+-- the place of the gate, where so many bytes of payload behind it, with a gate behind them, would be too many
+abbrev pub full_at : ℕ → ℕ → Option ℕ
+full_at gate size = if nat_lt most_bytes (gate + 6 + size) then Some gate else None
+
 -- a payload that may stand in a frame
 abbrev pub IsShort : List ℕ → Type 0
-IsShort payload = length payload ≤ 16777216
+IsShort payload = length payload ≤ longest_payload
 
 -- The file has an open frame for each payload, and then a gate that is closed. Bytes behind it mean nothing.
 pub record Stands (file : List ℕ) (payloads : List (List ℕ)) (gate : ℕ) : Type 0 where

@@ -3,6 +3,7 @@ use Rattle.std.specs.Prelude.{◌≡◌, ◌≢◌, ◌⊎◌, ⊤, ◌≤◌, �
 use Rattle.std.specs.List.{All}
 use Rattle.std.specs.Int.{w32, from_be_bytes}
 use Rattle.fh_base.specs.Faults.{Rose}
+use Rattle.fh_base.specs.Limits.{longest_payload}
 use Rattle.fh_journal.specs.Journal.{header, opened, IsShort}
 use Rattle.fh_journal.specs.declared.faults.FrameRule.{FrameRule}
 use Rattle.fh_journal.specs.declared.faults.FrameRule.TheVariants.{Cut, Length}
@@ -25,8 +26,8 @@ length_field bytes = from_be_bytes w32 (take 4 bytes)
 -- What stands behind an open gate breaks the rule: its length is too great, or the file ends in the length, in the
 -- payload, or before the gate that must follow.
 abbrev pub Breaks : FrameRule → List ℕ → Type 0
-Breaks (Length given) bytes = (4 ≤ length bytes) × (given ≡ length_field bytes) × (16777216 < given)
-Breaks Cut bytes = (length bytes < 4) ⊎ ((length_field bytes ≤ 16777216) × (length bytes ≤ 4 + length_field bytes))
+Breaks (Length given) bytes = (4 ≤ length bytes) × (given ≡ length_field bytes) × (longest_payload < given)
+Breaks Cut bytes = (length bytes < 4) ⊎ ((length_field bytes ≤ longest_payload) × (length bytes ≤ 4 + length_field bytes))
 
 -- whole frames come first, and the open gate at this place is that of the first one that breaks a rule
 pub record BreaksAt (file : List ℕ) (at : ℕ) (rule : FrameRule) : Type 0 where

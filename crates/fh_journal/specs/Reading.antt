@@ -1,6 +1,7 @@
 -- What reads of a file find: a buffer that is filled, and what stands at a gate.
 use Rattle.std.specs.Prelude.{◌≡◌, ◌≢◌, ⊤, ℕ, ◌-◌, ◌<◌, ◌≤◌, Bool, true, false, List, ◌∷◌, ◌++◌, length, take, drop, Option, Some, None, Result, Ok, Err}
 use Rattle.std.specs.Int.{w32, to_be_bytes}
+use Rattle.fh_base.specs.Limits.{longest_payload}
 use Rattle.fh_journal.specs.Journal.{frame, header, IsShort, Stands}
 use Rattle.fh_journal.specs.Frames.{payloads_of}
 use Rattle.fh_journal.specs.Mounting.{Breaks, BreaksAt, fresh_file}
@@ -26,7 +27,7 @@ pub record OpensAt (file : List ℕ) (at size : ℕ) : Type 0 where
   pub behind : List ℕ
   pub here : drop at file ≡ 1 ∷ behind
   pub given : take 4 behind ≡ to_be_bytes w32 size
-  pub short : size ≤ 16777216
+  pub short : size ≤ longest_payload
 
 -- a whole frame has its gate at this place
 pub record FrameAt (file : List ℕ) (at : ℕ) (payload : List ℕ) : Type 0 where

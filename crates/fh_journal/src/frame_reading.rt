@@ -1,16 +1,18 @@
 // How the frames of a journal are read, each by reads of its own.
 ghost use Rattle.std.specs.Prelude.{◌≡◌, ◌≤◌, ◌<◌, ◌+◌, ◌^◌, true, length, take, IfOk, IfSome};
+ghost use Rattle.fh_base.specs.Limits.{longest_payload};
 ghost use Rattle.fh_journal.specs.Frames.{payloads_of, frames_from};
-ghost use Rattle.fh_journal.specs.Journal.{header};
+ghost use Rattle.fh_journal.specs.Journal.{first_gate, header};
 ghost use Rattle.fh_journal.specs.Keeping.{OnlyReads};
 ghost use Rattle.fh_journal.specs.Mounting.{CountsFaults};
 ghost use Rattle.fh_journal.specs.Reading.{ReadsSize, ReadsFrame, ReadsFrames};
 
-use crate::frames::{Frame, Frames, Payload};
-use crate::journal::{LONGEST, OPEN};
+use crate::frames::{Frame, Frames};
+use crate::journal::{FIRST_GATE, OPEN, gate_behind};
 use crate::mounting::Prepared;
 use crate::reading::read_fully;
 use crate::{FrameRule, MountFault};
+use fh_base::{Bytes, LONGEST_PAYLOAD};
 use fh_disk::Disk;
 use std::alloc::Global;
 
@@ -22,17 +24,17 @@ pub(crate) fn read_frames<J: Disk>(
 ) -> Result<Prepared, MountFault>
     requires long { 7 ≤ end }
     ensures read { IfSome (J.told disk.old) (λ file. length file ≡ end → take 6 file ≡ header → ReadsFrames file result) }
-    ensures places { IfOk result (λ found. found.frames ≡ frames_from 6 (payloads_of found.frames)) }
+    ensures places { IfOk result (λ found. found.frames ≡ frames_from first_gate (payloads_of found.frames)) }
     ensures counted { CountsFaults (J.disk_faults disk.old) (J.disk_faults disk.new) result }
     ensures quiet { OnlyReads J.told J.may_leave J.moment J.left_since disk.old disk.new }
     ensures count { J.disk_faults disk.old ≤ J.disk_faults disk.new }
 {
     let mut frames = Vec::new(alloc);
-    let mut at = 6;
+    let mut at = FIRST_GATE;
     while let Some(payload) = read_frame(alloc, disk, at, end)? {
         let size = payload.as_slice().len() as u64;
         frames.push(Frame { at, payload })?;
-        at += 5 + size;
+        at = gate_behind(at, size);
     }
     Ok(Prepared {
         frames: Frames::new(frames),
@@ -46,7 +48,7 @@ fn read_frame<J: Disk>(
     disk: &mut J,
     at: u64,
     end: u64,
-) -> Result<Option<Payload>, MountFault>
+) -> Result<Option<Bytes>, MountFault>
     requires inside { at < end }
     ensures read { IfSome (J.told disk.old) (λ file. length file ≡ end → ReadsFrame file at result) }
     ensures within { IfOk result (λ found. IfSome found (λ payload. at + 5 + length payload < end)) }
@@ -65,14 +67,14 @@ fn read_frame<J: Disk>(
     if !read_fully(disk, at + 5, &mut bytes)? {
         return cut(at);
     }
-    Ok(Some(Payload::new(bytes)))
+    Ok(Some(Bytes::new(bytes)))
 }
 
 // The length of the frame whose gate is at a place in the file, or none where the gate is closed.
 fn read_size<J: Disk>(disk: &mut J, at: u64, end: u64) -> Result<Option<usize>, MountFault>
     requires inside { at < end }
     ensures read { IfSome (J.told disk.old) (λ file. length file ≡ end → ReadsSize file at result) }
-    ensures within { IfOk result (λ found. IfSome found (λ size. (at + 5 ≤ end) × (size ≤ 16777216))) }
+    ensures within { IfOk result (λ found. IfSome found (λ size. (at + 5 ≤ end) × (size ≤ longest_payload))) }
     ensures counted { CountsFaults (J.disk_faults disk.old) (J.disk_faults disk.new) result }
     ensures quiet { OnlyReads J.told J.may_leave J.moment J.left_since disk.old disk.new }
     ensures count { J.disk_faults disk.old ≤ J.disk_faults disk.new }
@@ -89,7 +91,7 @@ fn read_size<J: Disk>(disk: &mut J, at: u64, end: u64) -> Result<Option<usize>, 
         return cut(at);
     }
     let given = u32::from_be_bytes([bytes[1], bytes[2], bytes[3], bytes[4]]);
-    if given as u64 > LONGEST {
+    if given as usize > LONGEST_PAYLOAD {
         let rule = FrameRule::Length { given };
         return Err(MountFault::BadFrame { at, rule });
     }

@@ -1,12 +1,13 @@
 // A journal over a disk that is lent: how payloads are added, and how a torn one is mended.
-ghost use Rattle.std.specs.Prelude.{◌≡◌, ◌⊎◌, ⊤, ◌+◌, ◌≤◌, ◌<◌, [], ◌∷◌, ◌++◌, ℕ, List, Some, None, true, false, length, nat_lt, if◌then◌else◌, vec_capacity, IfOk, IfErr, MatchResult, OnOk, OnErr, IfSome};
+ghost use Rattle.std.specs.Prelude.{◌≡◌, ◌⊎◌, ⊤, ◌+◌, ◌≤◌, ◌<◌, ◌^◌, [], ◌∷◌, ◌++◌, ℕ, List, Some, None, true, false, length, vec_capacity, IfOk, IfErr, MatchResult, OnOk, OnErr, IfSome};
 ghost use Rattle.std.specs.Option.{option_map};
 ghost use Rattle.std.specs.Int.{w32, to_be_bytes};
 ghost use Rattle.fh_base.specs.Faults.{Rose};
+ghost use Rattle.fh_base.specs.Limits.{longest_payload};
 ghost use Rattle.fh_disk.specs.Disk.{OnlyTold};
 ghost use Rattle.fh_disk.specs.Moments.{LeavesOnly};
 ghost use Rattle.fh_journal.specs.Frames.{payloads_of, frames_from};
-ghost use Rattle.fh_journal.specs.Journal.{IsJournalOf, MayReadAs};
+ghost use Rattle.fh_journal.specs.Journal.{IsJournalOf, MayReadAs, first_gate, full_at, gate_behind};
 ghost use Rattle.fh_journal.specs.Mounting.{CountsFaults, IsBeingMade, MountsTold, UnlessDiskFault, mounted_file};
 ghost use Rattle.fh_journal.specs.Keeping.{Keeps, IsBeforeOrAfter, StaysTold};
 
@@ -22,14 +23,14 @@ pub(crate) const OPEN: u8 = 1;
 /// The value that is written at a gate with no frame behind it.
 pub(crate) const CLOSED: u8 = 0;
 
-/// The most bytes that a payload may have.
-pub(crate) const LONGEST: u64 = 16_777_216;
-
 /// The most bytes that a journal may have.
 const GREATEST: u64 = 1_073_741_824;
 
-/// What a frame has beside its payload, and the gate that follows it: two gates and the length.
-const AROUND: u64 = 6;
+/// What a frame has before its payload: its gate and the length.
+const BEFORE_PAYLOAD: u64 = 5;
+
+/// The place of the first gate, in bytes: it stands behind the header.
+pub const FIRST_GATE: u64 = 6;
 
 /// A journal over a disk that is lent. It may be dropped at any time; `close` gives the disk back.
 #[derive(Drop)]
@@ -70,7 +71,7 @@ impl<'d, J: Disk> Journal<'d, J> {
             (λ found. OnlyTold (J.told found.0.disk.now) (J.may_leave found.0.disk.now))
             (λ refused. UnlessDiskFault {T = ⊤} (OnlyTold (J.told refused.1.now) (J.may_leave refused.1.now)) (Err refused.0)) }
         ensures whole { IfOk result (λ found. found.0.torn ≡ false) }
-        ensures places { IfOk result (λ found. found.1 ≡ frames_from 6 (payloads_of found.1)) }
+        ensures places { IfOk result (λ found. found.1 ≡ frames_from first_gate (payloads_of found.1)) }
         ensures file { IfOk result (λ found. J.told found.0.disk.now ≡ option_map mounted_file (J.told disk.entry.now)) }
         ensures refused { IfErr result (λ refused. MountsTold (J.told disk.entry.now) (J.told refused.1.now) (Err refused.0)) }
         ensures counted { IfErr result (λ refused. CountsFaults {T = ⊤} (J.disk_faults disk.entry.now) (J.disk_faults refused.1.now) (Err refused.0)) }
@@ -115,7 +116,7 @@ impl<'d, J: Disk> Journal<'d, J> {
 
     /// The place of the gate, where a payload of so many bytes would make the file too long. Takes no memory.
     pub fn room(&self, payload: u64) -> Option<u64>
-        ensures { result ≡ (if nat_lt 1073741824 (self.now.gate + 6 + payload) then Some self.now.gate else None) }
+        ensures { result ≡ full_at self.now.gate payload }
     {
         room_behind(self.gate, payload)
     }
@@ -141,15 +142,15 @@ impl<'d, J: Disk> Journal<'d, J> {
     /// before the gate is opened. Where the third or fourth fails the journal is torn. Takes no memory.
     pub fn append(&mut self, payload: &[u8]) -> Result<u64, AppendFault>
         requires filled { 1 ≤ length payload.now }
-        requires short { length payload.now ≤ 16777216 }
-        requires room { self.old.gate + 6 + length payload.now ≤ 1073741824 }
+        requires short { length payload.now ≤ longest_payload }
+        requires room { full_at self.old.gate (length payload.now) ≡ None }
         requires reserved { length payload.now + 5 ≤ vec_capacity self.old.buffer }
         ensures added { OnOk result ((payloads : List (List ℕ)) (failed : List ℕ)
             → Keeps (J.told self.old.disk.now) (J.may_leave self.old.disk.now) self.old.torn payloads failed self.old.gate
             → Keeps (J.told self.new.disk.now) (J.may_leave self.new.disk.now) false (payloads ++ payload.now ∷ []) [] self.new.gate) }
         ensures durable { OnOk result (OnlyTold (J.told self.new.disk.now) (J.may_leave self.new.disk.now)) }
         ensures place { IfOk result (λ at. at ≡ self.old.gate) }
-        ensures gate { OnOk result (self.new.gate ≡ self.old.gate + 5 + length payload.now) }
+        ensures gate { OnOk result (self.new.gate ≡ gate_behind self.old.gate (length payload.now)) }
         ensures whole { OnOk result (self.new.torn ≡ false) }
         ensures fault { OnErr result (Rose (J.disk_faults self.old.disk.now) (J.disk_faults self.new.disk.now)) }
         ensures same_gate { OnErr result (self.new.gate ≡ self.old.gate) }
@@ -214,7 +215,7 @@ impl<'d, J: Disk> Journal<'d, J> {
 
 // The rest of a frame behind its gate, and the next gate, which is closed.
 fn put_frame(buffer: &mut Vec<u8>, payload: &[u8])
-    requires short { length payload.now ≤ 16777216 }
+    requires short { length payload.now ≤ longest_payload }
     requires reserved { length payload.now + 5 ≤ vec_capacity buffer.old }
     ensures bytes { buffer.new.items ≡ to_be_bytes w32 (length payload.now) ++ payload.now ++ 0 ∷ [] }
     ensures size { length buffer.new.items ≡ length payload.now + 5 }
@@ -230,8 +231,18 @@ fn put_frame(buffer: &mut Vec<u8>, payload: &[u8])
 /// The place of a gate, where a payload of so many bytes behind it would make a file too long. Takes no
 /// memory.
 pub fn room_behind(gate: u64, payload: u64) -> Option<u64>
-    ensures { result ≡ (if nat_lt 1073741824 (gate + 6 + payload) then Some gate else None) }
+    ensures { result ≡ full_at gate payload }
 {
-    let fits = payload <= GREATEST - AROUND && gate <= GREATEST - AROUND - payload;
+    // The gate that follows the frame has one byte.
+    let beside = BEFORE_PAYLOAD + 1;
+    let fits = payload <= GREATEST - beside && gate <= GREATEST - beside - payload;
     if fits { None } else { Some(gate) }
+}
+
+/// The place of the gate behind a frame whose own gate is at a place, with so many bytes of payload.
+pub fn gate_behind(gate: u64, payload: u64) -> u64
+    requires { gate_behind gate payload < 2 ^ 64 }
+    ensures { result ≡ gate_behind gate payload }
+{
+    gate + BEFORE_PAYLOAD + payload
 }

@@ -21,8 +21,8 @@ mod reading;
 mod writing;
 
 pub use faults::{AppendFault, FrameRule, MountFault};
-pub use frames::{Frame, Frames, Payload};
-pub use journal::{Journal, room_behind};
+pub use frames::{Frame, Frames};
+pub use journal::{FIRST_GATE, Journal, gate_behind, room_behind};
 pub use laws::files_have_one_reading;
 pub use mounting::{Prepared, prepare};
 

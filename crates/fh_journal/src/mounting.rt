@@ -5,7 +5,7 @@ ghost use Rattle.fh_base.specs.Faults.{HasCause};
 ghost use Rattle.fh_disk.specs.Disk.{OnlyTold};
 ghost use Rattle.fh_disk.specs.Moments.{LeavesOnly};
 ghost use Rattle.fh_journal.specs.Frames.{payloads_of, frames_from};
-ghost use Rattle.fh_journal.specs.Journal.{IsJournalOf};
+ghost use Rattle.fh_journal.specs.Journal.{IsJournalOf, first_gate};
 ghost use Rattle.fh_journal.specs.Keeping.{Keeps, OnlyReads, StaysTold};
 ghost use Rattle.fh_journal.specs.Mounting.{CountsFaults, IsBeingMade, MountsTold, UnlessDiskFault, fresh_file};
 ghost use Rattle.fh_journal.specs.Reading.{BeginsWithHeader, IsFresh};
@@ -13,6 +13,7 @@ ghost use Rattle.fh_journal.specs.Reading.{BeginsWithHeader, IsFresh};
 use crate::MountFault;
 use crate::frame_reading::read_frames;
 use crate::frames::Frames;
+use crate::journal::FIRST_GATE;
 use crate::reading::read_fully;
 use crate::writing::write_durably;
 use fh_base::Failed;
@@ -24,9 +25,6 @@ const HEADER: [u8; 6] = [0x46, 0x4E, 0x48, 0x4A, 0x00, 0x01];
 
 /// A journal of no frames: the header and a closed gate.
 const FRESH: [u8; 7] = [0x46, 0x4E, 0x48, 0x4A, 0x00, 0x01, 0x00];
-
-/// The place of the first gate.
-const FIRST_GATE: u64 = 6;
 
 /// What mounting finds in a file: its frames, and the place of the gate behind them.
 #[derive(Drop)]
@@ -41,7 +39,7 @@ pub struct Prepared {
 pub fn prepare<J: Disk>(alloc: Global, disk: &mut J) -> Result<Prepared, MountFault>
     ensures stands { IfOk result (λ made. Keeps (J.told disk.new) (J.may_leave disk.new) false (payloads_of made.frames) [] made.gate) }
     ensures durable { UnlessDiskFault (OnlyTold (J.told disk.new) (J.may_leave disk.new)) result }
-    ensures places { IfOk result (λ made. made.frames ≡ frames_from 6 (payloads_of made.frames)) }
+    ensures places { IfOk result (λ made. made.frames ≡ frames_from first_gate (payloads_of made.frames)) }
     ensures file { MountsTold (J.told disk.old) (J.told disk.new) result }
     ensures counted { CountsFaults (J.disk_faults disk.old) (J.disk_faults disk.new) result }
     ensures any_moment { IfSome (J.told disk.old) (λ file. LeavesOnly J.moment J.left_since disk.old disk.new

@@ -69,8 +69,9 @@ short_ways part m = record {
 pub short_texts : OfEachAsk HasShortTexts
 short_texts part ask m after answer h is = (by_ways _ part m (short_ways part m) after answer ask is).holds after
 
-pub moves_little : OfEachAsk MovesLittle
-moves_little part ask m after answer h is =
+pub moves_little : (part : QueuePart) (ask : Ask) (m : ℕ) (after : QueuePart) (answer : QueueDone)
+    → outcome part ask m ≡ Makes after answer → MovesLittle part m ask after answer
+moves_little part ask m after answer is =
     let way = by_ways _ part m (givings part m) after answer ask is in
     subst (λ (p : QueuePart). MovesLittle part m ask p answer) way.made (record { numbers = way.holds.numbers; receipts = way.holds.receipts; number = way.holds.one; receipt = way.holds.few })
 

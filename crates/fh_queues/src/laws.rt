@@ -1,7 +1,12 @@
 //! What holds of each ask that changes something, where the part before is whole. The first law carries that
 //! over every list of asks, from no queues on.
 
+ghost use Rattle.std.specs.Prelude.{◌≡◌, ℕ};
+ghost use Rattle.fh_event.specs.Judging.{Makes};
+ghost use Rattle.fh_queues.specs.declared.done.QueueDone.{QueueDone};
+ghost use Rattle.fh_queues.specs.Asks.{Ask};
 ghost use Rattle.fh_queues.specs.Part.{QueuePart, no_queues};
+ghost use Rattle.fh_queues.specs.Outcome.{outcome};
 ghost use Rattle.fh_queues.specs.Whole.{IsWhole};
 ghost use Rattle.fh_queues.specs.Tellings.{TellsOfMessages};
 ghost use Rattle.fh_queues.specs.Laws.{OfEachAsk, StaysWhole, MovesLittle, GoesOnAsAnswered, GivesNumbersInTurn, GivesReceiptsInTurn, KeepsUntouched, RaisesReceipts, TakesVisible, HasShortTexts, IsKnownByNumber};
@@ -15,7 +20,8 @@ pub fn parts_stay_whole()
 
 /// One number and 32 receipts are given at once, at most.
 pub fn counters_move_little()
-    ensures { OfEachAsk MovesLittle }
+    ensures { (part : QueuePart) (ask : Ask) (m : ℕ) (after : QueuePart) (answer : QueueDone)
+        → outcome part ask m ≡ Makes after answer → MovesLittle part m ask after answer }
 {}
 
 /// A message whose row isn't live expires, a live one is changed or deleted as the ask and its answer say,

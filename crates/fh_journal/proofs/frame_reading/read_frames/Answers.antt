@@ -15,13 +15,13 @@ loop-frames-preserved g c =
     let size : length c.as_slice.result.now ≡ length payload = ap length c.as_slice.ensures in
     let inside : c.loop-frames.at + 5 + length payload < c.args.end = rw c.in-Some.is at c.in_ok-payload.ensures.within in
     record {
-      inside = omega (arith, inside, size);
-      place = rw payloads (omega (arith, size, was.place, place_behind-push 6 old payload));
+      inside = omega (arith, inside, size, c.gate_behind-at.ensures);
+      place = rw payloads (omega (arith, size, c.gate_behind-at.ensures, was.place, place_behind-push 6 old payload));
       places = places_more c.loop-frames.frames.items _ c.loop-frames.at payload pushed was.places was.place;
       quiet = quiet_both g.J.Disk.told g.J.Disk.may_leave g.J.Disk.moment g.J.Disk.left_since _ _ _ was.quiet c.in_ok-payload.ensures.quiet;
       count = c.in_ok-payload.ensures.counted ∙ was.count;
       read =
-          told_goes_on _ _ c.args.end c.loop-frames.at _ old _ payload _ was.quiet.same_bytes c.in-Some.is (omega (arith, size)) payloads was.read
+          told_goes_on _ _ c.args.end c.loop-frames.at _ old _ payload _ was.quiet.same_bytes c.in-Some.is (omega (arith, size, c.gate_behind-at.ensures)) payloads was.read
           c.in_ok-payload.ensures.read;
     }
 
