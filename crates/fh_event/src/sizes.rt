@@ -7,7 +7,7 @@ ghost use Rattle.fh_event.specs.Kinds.{fields_of};
 ghost use Rattle.fh_event.specs.Entries.{entry, HasShortTexts};
 
 use crate::command::Command;
-use crate::tables::{clear, delete, locate, make_queue, peek, put, take, update};
+use crate::tables::{clear, delete, locate, make_queue, of_command, peek, put, take, update};
 use fh_base::Text;
 
 /// What an entry has before its fields: the moment, and the kind.
@@ -52,16 +52,7 @@ macro_rules! held_size {
 fn fields_size(command: &Command) -> u64
     ensures { result ≡ min (length (flat_map spelled (fields_of command.now))) (2 ^ 64 - 1) }
 {
-    match command {
-        Command::MakeQueue { .. } => make_queue!(sizer command),
-        Command::Put { .. } => put!(sizer command),
-        Command::Take { .. } => take!(sizer command),
-        Command::Update { .. } => update!(sizer command),
-        Command::Delete { .. } => delete!(sizer command),
-        Command::Clear { .. } => clear!(sizer command),
-        Command::Peek { .. } => peek!(sizer command),
-        Command::Locate { .. } => locate!(sizer command),
-    }
+    of_command!(command sizer command)
 }
 
 #[tactic(auto, unfolding(crate::specs::Fields::number_bytes))]

@@ -63,10 +63,32 @@ macro_rules! locate {
     ($with:ident $($args:tt)*) => { $with!([$($args)*] 23 Locate { 1 number: Number }) };
 }
 
+// Hands the table of a command's kind to the macro of that name, as above.
+macro_rules! of_command {
+    ($command:ident $with:ident $($args:tt)*) => {
+        match $command {
+            Command::MakeQueue { .. } => make_queue!($with $($args)*),
+            Command::Put { .. } => put!($with $($args)*),
+            Command::Take { .. } => take!($with $($args)*),
+            Command::Update { .. } => update!($with $($args)*),
+            Command::Delete { .. } => delete!($with $($args)*),
+            Command::Clear { .. } => clear!($with $($args)*),
+            Command::Peek { .. } => peek!($with $($args)*),
+            Command::Locate { .. } => locate!($with $($args)*),
+        }
+    };
+}
+
+macro_rules! kind {
+    ([] $kind:literal $variant:ident { $($field:literal $name:ident: $type:ident),* }) => { $kind };
+}
+
 pub(crate) use clear;
 pub(crate) use delete;
+pub(crate) use kind;
 pub(crate) use locate;
 pub(crate) use make_queue;
+pub(crate) use of_command;
 pub(crate) use peek;
 pub(crate) use put;
 pub(crate) use take;

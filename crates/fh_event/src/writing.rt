@@ -7,10 +7,7 @@ ghost use Rattle.fh_base.specs.Limits.{longest_payload};
 ghost use Rattle.fh_event.specs.Entries.{entry, HasShortTexts, AppendsEntry, Extends};
 
 use crate::command::Command;
-use crate::tables::{
-    CLEAR, DELETE, LOCATE, MAKE_QUEUE, PEEK, PUT, TAKE, UPDATE, clear, delete, locate, make_queue,
-    peek, put, take, update,
-};
+use crate::tables::{clear, delete, kind, locate, make_queue, of_command, peek, put, take, update};
 use fh_base::{Moment, NoMemory, Text};
 
 /// Appends the entry of the moment and the command, if no text has more than 16,777,216 bytes. After want of memory nothing is appended.
@@ -119,30 +116,12 @@ fn put_fields(into: &mut Vec<u8>, command: &Command) -> Result<(), NoMemory>
     ensures fields { OnOk result (AllByRecursion IsField (fields_of command.now)) }
     ensures err { OnErr result (Extends into.old.items into.new.items) }
 {
-    match command {
-        Command::MakeQueue { .. } => make_queue!(writer into command),
-        Command::Put { .. } => put!(writer into command),
-        Command::Take { .. } => take!(writer into command),
-        Command::Update { .. } => update!(writer into command),
-        Command::Delete { .. } => delete!(writer into command),
-        Command::Clear { .. } => clear!(writer into command),
-        Command::Peek { .. } => peek!(writer into command),
-        Command::Locate { .. } => locate!(writer into command),
-    }
+    of_command!(command writer into command);
     Ok(())
 }
 
 fn kind_of(command: &Command) -> u8
     ensures { result ≡ kind_number (kind_of command.now) }
 {
-    match command {
-        Command::MakeQueue { .. } => MAKE_QUEUE.kind,
-        Command::Put { .. } => PUT.kind,
-        Command::Take { .. } => TAKE.kind,
-        Command::Update { .. } => UPDATE.kind,
-        Command::Delete { .. } => DELETE.kind,
-        Command::Clear { .. } => CLEAR.kind,
-        Command::Peek { .. } => PEEK.kind,
-        Command::Locate { .. } => LOCATE.kind,
-    }
+    of_command!(command kind)
 }
