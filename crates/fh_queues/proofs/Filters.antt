@@ -1,6 +1,6 @@
 -- Lists that a test divides.
 use Rattle.std.proofs.Common.{◌≡◌, ℕ, suc, zero, ◌+◌, ◌<◌, ◌≤◌, Bool, true, false, not, List, [], ◌∷◌, ◌++◌, length, take, drop, filter, refl, sym, ap, ◌∙◌, arith}
-use Rattle.std.specs.Prelude.{nat_le, None}
+use Rattle.std.specs.Prelude.{nat_le, None, ◌&&◌}
 use Rattle.std.specs.List.{list_all}
 use Rattle.std.proofs.lemmas.Bool.Decides.{nat_tests}
 use Rattle.fh_queues.specs.Part.{QueuePart}
@@ -42,6 +42,17 @@ module _ {X : Type 0} (p : X → Bool) where
       by_tests true true pass is all more = rw (pass, is) (more (grind (arith, common_steps, all, is)))
       by_tests false true pass is all more = rw pass (more (grind (arith, common_steps, all, is)))
       by_tests b false pass is all more = absurd (grind (arith, common_steps, all, is))
+
+-- one test behind another
+pub filter-both : {X : Type 0} (p q : X → Bool) (xs : List X) → filter p (filter q xs) ≡ filter (λ x. p x && q x) xs
+filter-both p q [] = refl
+filter-both p q (x ∷ xs) = by_tests (p x) (q x) refl refl (filter-both p q xs)
+  where
+    by_tests : (b c : Bool) → p x ≡ b → q x ≡ c → filter p (filter q xs) ≡ filter (λ y. p y && q y) xs → filter p (filter q (x ∷ xs)) ≡ filter (λ y. p y && q y) (x ∷ xs)
+    by_tests true true is its more = rw (its, is) (ap (λ ys. x ∷ ys) more)
+    by_tests false true is its more = rw (its, is) more
+    by_tests true false is its more = rw (its, is) more
+    by_tests false false is its more = rw (its, is) more
 
 pub list_all-take : {X : Type 0} (q : X → Bool) (n : ℕ) (xs : List X) → list_all q xs ≡ true → list_all q (take n xs) ≡ true
 list_all-take q zero xs all = refl

@@ -1,5 +1,13 @@
+pub mod Naming
+pub mod Laning
 pub mod Changes
 pub mod Filters
+pub mod Slots
+pub mod Walks
+pub mod Sweeps
+pub mod Indexes
+pub mod Keeping
+pub mod Looking
 pub mod Items
 pub mod Finding
 pub mod Ends

@@ -16,10 +16,11 @@ use Rattle.fh_queues.specs.Acts.{numbered, count_or, changed, is_one, with_queue
 use Rattle.fh_queues.specs.Seen.{Seen, Unborn, seen_by, seen}
 use Rattle.fh_queues.specs.Whole.{is_counted, IsWhole}
 use Rattle.fh_queues.proofs.Finding.{keep_if, row_of-number, row_of-above, all_row_of, any-row_of, row_of-filter, row_of-with_change, row_of-push, list_all-filter, list_all-push, list_all-weaker, list_all-with_change, are_rising-filter, are_rising-push, are_rising-with_change, all_positive}
+use Rattle.fh_queues.proofs.Naming.{in_order-with_name}
 use Rattle.fh_queues.proofs.Ends.{is_given, end_of-push, end_of-past, length-with_ends, end_of-with_ends}
 
 pub Whole-none : IsWhole no_queues
-Whole-none = record { numbers = refl; receipts = omega arith; rising = refl; below = refl; counted = refl; placed = λ n low high. absurd (omega (arith, low, high)) }
+Whole-none = record { ordered = refl; numbers = refl; receipts = omega arith; rising = refl; below = refl; counted = refl; placed = λ n low high. absurd (omega (arith, low, high)) }
 
 module _ (part : QueuePart) (h : IsWhole part) where
   pub all_given : list_all (is_given (length part.ends)) part.rows ≡ true
@@ -49,13 +50,14 @@ module _ (part : QueuePart) (h : IsWhole part) where
   seen-zero = ap (λ row. seen_by row None) (row_of-above 0 0 part.rows (omega arith) h.rising)
 
   pub Whole-with_queue : (queue : List ℕ) → IsWhole (with_queue queue part)
-  Whole-with_queue queue = record { numbers = h.numbers; receipts = h.receipts; rising = h.rising; below = h.below; counted = h.counted; placed = h.placed }
+  Whole-with_queue queue = record { ordered = in_order-with_name queue part.queues h.ordered; numbers = h.numbers; receipts = h.receipts; rising = h.rising; below = h.below; counted = h.counted; placed = h.placed }
 
   pub Whole-with_row : (new : NewMessage) → IsWhole (with_row new part)
   Whole-with_row new =
       let row : Message = numbered part.next_number part.next_receipt new in
       let next = part.next_number in
       record {
+        ordered = h.ordered;
         numbers = omega (arith, h.numbers, length-append part.ends (None ∷ []));
         receipts = omega arith;
         rising = are_rising-push 0 part.rows row (omega (arith, h.numbers)) h.below h.rising;
@@ -69,6 +71,7 @@ module _ (part : QueuePart) (h : IsWhole part) where
       let next = part.next_receipt in
       let anew : Message → Message = changed next change in
       record {
+        ordered = h.ordered;
         numbers = h.numbers;
         receipts = omega arith;
         rising = are_rising-with_change 0 number anew (λ row. refl) part.rows h.rising;
@@ -92,6 +95,7 @@ module _ (part : QueuePart) (h : IsWhole part) where
       let stays : Message → Bool = λ row. not (out row) in
       let gone = filter out part.rows in
       record {
+        ordered = h.ordered;
         numbers = omega (arith, h.numbers, length-with_ends ending gone part.ends);
         receipts = h.receipts;
         rising = are_rising-filter 0 stays part.rows h.rising;

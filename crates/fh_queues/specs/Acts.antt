@@ -10,6 +10,7 @@ use Rattle.fh_queues.specs.declared.act.Which.TheVariants.{Dead, InQueue, Number
 use Rattle.fh_queues.specs.declared.act.Act.{Act}
 use Rattle.fh_queues.specs.declared.act.Act.TheVariants.{AddQueue, AddRow, ChangeRow, EndRows}
 use Rattle.fh_queues.specs.Rows.{is_of, is_dead, with_change}
+use Rattle.fh_queues.specs.Order.{with_name}
 use Rattle.fh_queues.specs.Part.{QueuePart}
 
 -- the row of a new message, with this number and receipt
@@ -62,7 +63,7 @@ with_ends which ending part = record part {
 }
 
 abbrev pub with_queue : List ℕ → QueuePart → QueuePart
-with_queue queue part = record part { queues = part.queues ++ queue ∷ [] }
+with_queue queue part = record part { queues = with_name queue part.queues }
 
 -- a new row has the next number and receipt
 abbrev pub with_row : NewMessage → QueuePart → QueuePart

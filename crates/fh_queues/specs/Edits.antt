@@ -1,5 +1,5 @@
 -- Changes of the queues, planned and staged.
-use Rattle.std.specs.Prelude.{◌≡◌, ℕ, ◌<◌, ◌≤◌, ◌^◌, List, [], ◌∷◌, length, Option, Some, None}
+use Rattle.std.specs.Prelude.{◌≡◌, ℕ, ◌<◌, ◌^◌, List, [], ◌∷◌, Option, Some, None}
 use Rattle.fh_event.specs.Judging.{Quiets, Makes}
 use Rattle.fh_queues.specs.declared.act.Act.{Act}
 use Rattle.fh_queues.specs.declared.done.QueueDone.{QueueDone}
@@ -8,13 +8,10 @@ use Rattle.fh_queues.specs.Part.{QueuePart}
 use Rattle.fh_queues.specs.Acts.{by_acts}
 use Rattle.fh_queues.specs.Outcome.{Outcome, outcome}
 
--- what the queues hold: their part of the world, the acts of a change that is staged, and the room that is left
+-- what the queues hold: their part of the world, and the acts of a change that is staged, which has its memory
 pub record QueueState : Type 0 where
   pub part : QueuePart
   pub ahead : Option (List Act)
-  pub queue_room : ℕ
-  pub row_room : ℕ
-  pub end_room : ℕ
 
 -- the acts of a change, from the sweep on, and its answer; a quiet one has none
 pub record Change : Type 0 where
@@ -54,10 +51,7 @@ pub record IsOutcome (part : QueuePart) (made : QueuePart × QueueDone) : Type 0
 abbrev pub IsIdle : QueueState → Type 0
 IsIdle state = state.ahead ≡ None
 
--- the change was planned on this part, and has its memory
+-- the change was planned on this part
 pub record IsStaged (state : QueueState) (staged : Staged) : Type 0 where
   pub numbers : HasNumbers state.part
   pub planned : IsOutcome state.part (made state staged)
-  pub queues : length (acts_in state.ahead) ≤ state.queue_room
-  pub rows : length (acts_in state.ahead) ≤ state.row_room
-  pub ends : length (acts_in state.ahead) ≤ state.end_room

@@ -1,10 +1,10 @@
 pub mod Rows
 pub mod Asks
 pub mod Part
+pub mod Order
 pub mod Acts
 pub mod Rules
 pub mod Outcome
-pub mod Order
 pub mod Seen
 pub mod Places
 pub mod Whole
@@ -13,5 +13,7 @@ pub mod Goings
 pub mod Tellings
 pub mod Laws
 pub mod Edits
+pub mod Lanes
+pub mod Index
 pub mod Lists
 pub mod Faults

@@ -5,8 +5,8 @@ use Rattle.std.specs.Str.{bytes_eq}
 use Rattle.fh_queues.specs.declared.row.Message.{Message}
 use Rattle.fh_queues.specs.declared.done.Ending.{Ending}
 
--- the queues' names, the messages in order of number, for each number from 1 on how its message went, or none
--- where it stands, and the counters
+-- the queues' names in order of bytes, the messages in order of number, for each number from 1 on how its message
+-- went, or none where it stands, and the counters
 pub record QueuePart : Type 0 where
   pub queues : List (List ℕ)
   pub rows : List Message

@@ -4,15 +4,16 @@ use Rattle.std.specs.List.{list_all}
 use Rattle.fh_queues.specs.declared.row.Message.{Message}
 use Rattle.fh_queues.specs.Rows.{row_of}
 use Rattle.fh_queues.specs.Part.{QueuePart, end_of}
-use Rattle.fh_queues.specs.Order.{are_rising}
+use Rattle.fh_queues.specs.Order.{are_in_order, are_rising}
 
 -- a row's count is at most its receipt, which is below the next one
 abbrev pub is_counted : ℕ → Message → Bool
 is_counted next_receipt row = nat_le row.count row.receipt && nat_lt row.receipt next_receipt
 
--- numbers and receipts are given from 1 on; rows stand in order of number, each with a number and a receipt that
--- were given; and a message whose number was given has a row or has ended, and not both
+-- queues stand in order of bytes; numbers and receipts are given from 1 on; rows stand in order of number, each with
+-- a number and a receipt that were given; and a message whose number was given has a row or has ended, and not both
 pub record IsWhole (part : QueuePart) : Type 0 where
+  pub ordered : are_in_order part.queues ≡ true
   pub numbers : part.next_number ≡ length part.ends + 1
   pub receipts : 1 ≤ part.next_receipt
   pub rising : are_rising 0 part.rows ≡ true

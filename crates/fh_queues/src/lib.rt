@@ -13,6 +13,9 @@ mod ask;
 mod change;
 mod choosing;
 mod done;
+mod ending;
+mod lane;
+mod lanes;
 mod laws;
 mod lists;
 mod planning;
@@ -21,6 +24,7 @@ mod reading;
 mod row;
 mod rows;
 mod rules;
+mod slot;
 mod staging;
 
 pub use ask::QueueAsk;

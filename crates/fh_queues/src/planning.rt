@@ -1,15 +1,14 @@
 // What an ask comes to, before anything changes.
-ghost use Rattle.std.specs.Prelude.{◌≡◌, ◌<◌, ◌≤◌, ◌+◌, ◌^◌, ◌∷◌, [], length, map, option_map, IfOk, IfErr, IfSome};
+ghost use Rattle.std.specs.Prelude.{◌≡◌, ◌<◌, ◌≤◌, ◌+◌, ◌^◌, ◌∷◌, [], map, option_map, IfOk, IfErr, IfSome};
 ghost use Rattle.fh_queues.specs.Asks.{ask_of};
-ghost use Rattle.fh_queues.specs.Rows.{live};
 ghost use Rattle.fh_queues.specs.Acts.{sweep};
 ghost use Rattle.fh_queues.specs.declared.act.Act.TheVariants.{EndRows};
-ghost use Rattle.fh_queues.specs.Outcome.{acting, making, putting, taking, updating, deleting, emptying, outcome, made_by, too_full, expiry_after, hold, rows_of};
+ghost use Rattle.fh_queues.specs.Outcome.{acting, making, putting, taking, updating, deleting, emptying, outcome, made_by, too_full, expiry_after, hold};
 ghost use Rattle.fh_queues.specs.Edits.{IsIdle, HasNumbers, planned};
 ghost use Rattle.fh_queues.specs.Faults.{IsPlanOf};
 
 use crate::act::{Act, NewMessage, RowChange, Which};
-use crate::choosing::{chosen, taken_items};
+use crate::choosing::taken_items;
 use crate::{About, Ending, Message, QueueAsk, QueueChange, QueueDone, Queues};
 use fh_base::{Moment, NoMemory, QueueName, Rule, Text};
 use fh_event::{Item, PlanFault};
@@ -105,6 +104,7 @@ impl Queues {
         text: &Text,
         about: Option<&About>,
     ) -> Result<QueueChange, PlanFault>
+        requires numbers { HasNumbers self.now.part }
         ensures { IsPlanOf self.now.part (made_by self.now.part m
             (putting self.now.part m queue.now delay ttl text.now (option_map (λ a. a.now) about.entry)))
             result }
@@ -124,7 +124,7 @@ impl Queues {
         Ok(QueueChange {
             acts,
             done: QueueDone::Stored {
-                number: self.lists.next_number,
+                number: self.lists.next_number(),
                 receipt: self.lists.next_receipt,
             },
         })
@@ -145,7 +145,7 @@ impl Queues {
         if let Some(rule) = self.take_rule(queue, count, hold) {
             return Err(PlanFault::Rule(rule));
         }
-        let rows = chosen(alloc, &self.lists.rows, queue, count, m)?;
+        let rows = self.lists.chosen(alloc, queue, count, m)?;
         if rows.is_empty() {
             return Ok(QueueChange::quiet(alloc, QueueDone::Empty));
         }
@@ -222,7 +222,7 @@ impl Queues {
         if let Some(rule) = self.queue_rule(queue) {
             return Err(PlanFault::Rule(rule));
         }
-        let count = self.live_in(queue, m);
+        let count = self.lists.live_in(queue, m);
         if count == 0 {
             return Ok(QueueChange::quiet(alloc, QueueDone::Empty));
         }
@@ -231,18 +231,6 @@ impl Queues {
             acts,
             done: QueueDone::Cleared { count },
         })
-    }
-
-    // How many live messages a queue has.
-    fn live_in(&self, queue: &QueueName, m: Moment) -> u64
-        ensures { result ≡ length (rows_of queue.now (live m self.now.part.rows)) }
-    {
-        self.lists
-            .rows
-            .iter()
-            .filter(|row| row.is_live(m))
-            .filter(|row| row.is_of(queue))
-            .count() as u64
     }
 }
 

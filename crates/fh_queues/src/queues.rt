@@ -1,4 +1,4 @@
-// The queues, as they are kept: plain lists.
+// The queues, as they are kept: plain lists to contracts, an index in memory.
 ghost use Rattle.std.specs.Prelude.{◌≡◌};
 ghost use Rattle.fh_queues.specs.Part.{no_queues};
 ghost use Rattle.fh_queues.specs.Edits.{IsIdle};
@@ -19,7 +19,7 @@ pub struct Queues {
 impl Model for Queues {
     ghost use Rattle.std.specs.Prelude.{option_map};
     ghost use Rattle.fh_queues.specs.Edits.{QueueState};
-    ghost use Rattle.fh_queues.specs.Lists.{part_of, queue_room, row_room, end_room};
+    ghost use Rattle.fh_queues.specs.Lists.{part_of, IsSound, FitsAhead};
     ghost use Rattle.fh_queues.specs.Whole.{IsWhole};
 
     ghost Value = { QueueState };
@@ -27,12 +27,10 @@ impl Model for Queues {
     ghost view = { λ q. record {
       part = part_of q.lists;
       ahead = option_map (λ acts. acts.items) q.ahead;
-      queue_room = queue_room q.lists;
-      row_room = row_room q.lists;
-      end_room = end_room q.lists;
     } };
 
-    ghost invariant = { λ q. IsWhole (part_of q.lists) };
+    ghost invariant = { λ q. IsWhole (part_of q.lists) × IsSound q.lists
+        × FitsAhead q.lists (option_map (λ acts. acts.items) q.ahead) };
 }
 
 impl Queues {

@@ -1,12 +1,13 @@
 // What is read of the queues.
 ghost use Rattle.std.specs.Prelude.{◌≡◌, length, option_copied, IfOk, IfErr};
-ghost use Rattle.fh_queues.specs.Rows.{live, live_row, row_in, row_of};
-ghost use Rattle.fh_queues.specs.Part.{has_queue, end_of};
+ghost use Rattle.fh_queues.specs.Rows.{live, live_row, row_in};
+ghost use Rattle.fh_queues.specs.Part.{has_queue};
 ghost use Rattle.fh_queues.specs.Outcome.{peeked};
 ghost use Rattle.fh_queues.specs.Places.{place_of, place_of_live, place_of_row, place_of_ending};
 ghost use Rattle.fh_queues.specs.Faults.{IsFaultOf};
 
-use crate::choosing::{chosen, peeked_items};
+use crate::choosing::peeked_items;
+use crate::slot::Slot;
 use crate::{Ending, Message, Queues};
 use fh_base::{Moment, QueueName};
 use fh_event::{Items, Place, PlanFault};
@@ -28,7 +29,7 @@ impl Queues {
         if let Some(rule) = self.peek_rule(queue, count) {
             return Err(PlanFault::Rule(rule));
         }
-        let rows = chosen(alloc, &self.lists.rows, queue, count, m)?;
+        let rows = self.lists.chosen(alloc, queue, count, m)?;
         Ok(peeked_items(alloc, &rows)?)
     }
 
@@ -36,67 +37,54 @@ impl Queues {
     pub fn live(&self, m: Moment) -> u64
         ensures { result ≡ length (live m self.now.part.rows) }
     {
-        self.lists.rows.iter().filter(|row| row.is_live(m)).count() as u64
+        self.lists.live(m)
     }
 
     /// The row of that number, where it is live.
     pub fn row(&self, number: u64, m: Moment) -> Option<&Message>
         ensures { option_copied result ≡ live_row number m self.now.part.rows }
     {
-        self.lists
-            .rows
-            .iter()
-            .find(|row| row.number == number && row.is_live(m))
+        let Some(row) = self.lists.row_of(number) else {
+            return None;
+        };
+        if !row.is_live(m) {
+            return None;
+        }
+        Some(row)
     }
 
     /// Where the message of that number is.
     pub fn place_of(&self, number: u64, m: Moment) -> Place
         ensures { result ≡ place_of self.now.part number m }
     {
-        if let Some(row) = self.row_of(number) {
-            return place_of_row(row, m);
-        }
-        match self.end_of(number) {
-            Some(ending) => place_of_ending(ending),
-            None => Place::Unknown,
+        let Some(at) = self.lists.slot_of(number) else {
+            return Place::Unknown;
+        };
+        match &self.lists.slots[at] {
+            Slot::Row { row, place: _ } => place_of_row(row, m),
+            Slot::Ended { ending } => place_of_ending(*ending),
         }
     }
 
     pub(crate) fn has_queue(&self, queue: &QueueName) -> bool
         ensures { result ≡ has_queue self.now.part.queues queue.now }
     {
-        let wanted = queue.as_bytes();
-        self.lists
-            .queues
-            .iter()
-            .any(|name| name.as_bytes() == wanted)
+        self.lists.lanes.has_queue(queue)
     }
 
     pub(crate) fn row_in(&self, queue: &QueueName, number: u64, m: Moment) -> Option<&Message>
         ensures { option_copied result ≡ row_in queue.now number m self.now.part.rows }
     {
-        self.lists.rows.iter().find(|row| row.number == number
-            && row.is_of(queue)
-            && row.is_live(m))
-    }
-
-    fn row_of(&self, number: u64) -> Option<&Message>
-        ensures { option_copied result ≡ row_of number self.now.part.rows }
-    {
-        self.lists.rows.iter().find(|row| row.number == number)
-    }
-
-    // How the message of that number went.
-    fn end_of(&self, number: u64) -> Option<Ending>
-        ensures { result ≡ end_of number self.now.part.ends }
-    {
-        if number == 0 {
+        let Some(row) = self.lists.row_of(number) else {
+            return None;
+        };
+        if !row.is_of(queue) {
             return None;
         }
-        match self.lists.ends.get((number - 1) as usize) {
-            None => None,
-            Some(end) => *end,
+        if !row.is_live(m) {
+            return None;
         }
+        Some(row)
     }
 }
 

@@ -1,22 +1,43 @@
-// How lists of rows and of ends change.
-ghost use Rattle.std.specs.Prelude.{◌≡◌, ◌-◌, ◌≤◌, not, filter, fold, slice_set, vec_len, vec_capacity, Some};
-ghost use Rattle.fh_queues.specs.Rows.{with_change, IsPlaceOf};
-ghost use Rattle.fh_queues.specs.Acts.{changed, is_one, with_end};
+// How a row is made and changed, and the keys by which it is found.
+ghost use Rattle.std.specs.Prelude.{◌≡◌, ◌-◌, ◌^◌, ◌<◌, ◌≤◌};
+ghost use Rattle.fh_queues.specs.Acts.{changed, numbered};
+ghost use Rattle.fh_queues.specs.Index.{IsNoLater};
 
-use crate::act::{RowChange, Which};
-use crate::{Ending, Message};
+use crate::Message;
+use crate::act::{NewMessage, RowChange};
+use crate::lane::NEVER;
 
-/// Changes the row of that number, and gives it the receipt.
-pub(crate) fn change(rows: &mut [Message], number: u64, receipt: u64, change: RowChange)
-    ensures { rows.new ≡ with_change number (changed receipt change) rows.old }
+/// The greatest key of a message that stands.
+pub(crate) const LAST: u64 = NEVER - 1;
+
+/// The row of a new message, with this number and receipt.
+pub(crate) fn row_of(new: NewMessage, number: u64, receipt: u64) -> Message
+    ensures { result ≡ numbered number receipt new }
 {
-    let Some(place) = place_of(rows, number) else {
-        return;
-    };
-    change_row(&mut rows[place], receipt, change);
+    let NewMessage {
+        queue,
+        text,
+        put_at,
+        visible_at,
+        expiry,
+        about,
+    } = new;
+    Message {
+        number,
+        queue,
+        text,
+        put_at,
+        visible_at,
+        expiry,
+        count: 0,
+        receipt,
+        held: false,
+        about,
+    }
 }
 
-fn change_row(row: &mut Message, receipt: u64, change: RowChange)
+/// Changes a row, and gives it the receipt.
+pub(crate) fn change_row(row: &mut Message, receipt: u64, change: RowChange)
     ensures { row.new ≡ changed receipt change row.old }
 {
     let RowChange {
@@ -36,43 +57,20 @@ fn change_row(row: &mut Message, receipt: u64, change: RowChange)
     row.held = held;
 }
 
-/// Takes the rows of these out.
-pub(crate) fn take_out(rows: &mut Vec<Message>, which: &Which)
-    ensures rows { rows.new.items ≡ filter (λ row. not (is_one which.now row)) rows.old.items }
-    ensures fewer { vec_len rows.new ≤ vec_len rows.old }
-    ensures room { vec_capacity rows.new ≡ vec_capacity rows.old }
+/// The key of a message that is visible from that moment on.
+pub(crate) fn key_of(visible_at: u64) -> u64
+    ensures early { result ≤ visible_at }
+    ensures stands { result < 2 ^ 64 - 1 }
 {
-    rows.retain(|row| !which.is_one(row));
+    visible_at.min(LAST)
 }
 
-/// Notes that the messages of these rows have ended so.
-pub(crate) fn note(ends: &mut [Option<Ending>], rows: &[Message], which: &Which, ending: Ending)
-    ensures { ends.new ≡ fold (with_end ending) ends.old (filter (is_one which.now) rows.now) }
+/// A key that is no later than the expiry.
+pub(crate) fn expiry_key(expiry: Option<u64>) -> u64
+    ensures { IsNoLater result expiry }
 {
-    for row in rows {
-        if which.is_one(row) {
-            note_one(ends, row.number, ending);
-        }
+    match expiry {
+        None => NEVER,
+        Some(expiry) => expiry,
     }
-}
-
-fn note_one(ends: &mut [Option<Ending>], number: u64, ending: Ending)
-    ensures { ends.new ≡ slice_set ends.old (number - 1) (Some ending) }
-{
-    let place = number.saturating_sub(1) as usize;
-    if place < ends.len() {
-        ends[place] = Some(ending);
-    }
-}
-
-// The place of the first row of that number.
-fn place_of(rows: &[Message], number: u64) -> Option<usize>
-    ensures { IsPlaceOf number rows.now result }
-{
-    for (place, row) in rows.iter().enumerate() {
-        if row.number == number {
-            return Some(place);
-        }
-    }
-    None
 }

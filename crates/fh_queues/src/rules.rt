@@ -108,7 +108,7 @@ impl Queues {
         ensures { result ≡ store_rule self.now.part m }
     {
         // Of fewer rows than that fewer are live: no need to look at them.
-        if (self.lists.rows.len() as u64) < MOST_LIVE {
+        if (self.lists.count as u64) < MOST_LIVE {
             return None;
         }
         let live = self.live(m);

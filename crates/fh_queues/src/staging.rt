@@ -19,10 +19,7 @@ impl Queues {
         ensures err { OnErr result (IsIdle self.new) }
     {
         let QueueChange { acts, done } = change;
-        // Each act adds one of these at most.
-        self.lists.queues.reserve(acts.len())?;
-        self.lists.rows.reserve(acts.len())?;
-        self.lists.ends.reserve(acts.len())?;
+        self.lists.reserve(&acts)?;
         self.ahead = Some(acts);
         Ok(StagedQueues { done })
     }

@@ -56,7 +56,7 @@ fn moment(ms: u64) -> Result<Moment, Fail> {
 fn has_numbers(queues: &Queues) -> bool
     ensures { (result ≡ true) → HasNumbers queues.now.part }
 {
-    queues.lists.next_number < 1_000_000 && queues.lists.next_receipt < 1_000_000
+    queues.lists.slots.len() < 1_000_000 && queues.lists.next_receipt < 1_000_000
 }
 
 // Plans, stages and settles an ask.

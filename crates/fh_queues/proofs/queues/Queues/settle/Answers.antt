@@ -1,4 +1,4 @@
-use Rattle.std.proofs.Common.{◌≡◌, ◌∙◌, List, Some, ap, subst, sym, arith}
+use Rattle.std.proofs.Common.{rules, ◌≡◌, ◌∙◌, List, Some, ap, subst, sym, arith}
 use Rattle.std.specs.Prelude.{option_map}
 use Rattle.std.proofs.lemmas.Grind.{common_steps}
 use Rattle.fh_event.specs.Judging.{Makes}
@@ -20,4 +20,6 @@ invariant_of-self c =
     let ahead : c.self.inside.ahead ≡ Some c.in-Some.acts = grind (arith, common_steps) in
     let acts : acts_in (option_map (λ v. v.items) c.self.inside.ahead) ≡ c.in-Some.acts.items = ap (λ a. acts_in (option_map (λ v. v.items) a)) ahead in
     let planned : outcome part ask m ≡ Makes (by_acts part c.in-Some.acts.items) c.args.staged.done = subst (λ (a : List Act). outcome part ask m ≡ Makes (by_acts part a) c.args.staged.done) acts of_state in
-    subst IsWhole (sym c.act_all.ensures) (Whole-outcome part ask m _ _ c.self.invariant planned)
+    let whole : IsWhole (part_of c.act_all.new.self) = subst IsWhole (sym c.act_all.ensures.part) (Whole-outcome part ask m _ _ c.self.invariant.0 planned) in
+    let sound = c.act_all.ensures.sound in
+    (whole, record { indexed = sound.indexed; count = sound.count }, search rules)
