@@ -23,3 +23,4 @@ pub mod Placing
 pub mod Lawful
 pub mod Judging
 pub mod Telling
+pub mod Listing

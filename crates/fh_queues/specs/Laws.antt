@@ -1,5 +1,5 @@
 -- Laws of each ask that changes something.
-use Rattle.std.specs.Prelude.{◌≡◌, ℕ, ◌+◌, ◌<◌, ◌≤◌, nat_le, nat_lt, ◌&&◌, ◌↔◌, if◌then◌else◌, true, false, List, length, Some, None, IfSome, ⊤}
+use Rattle.std.specs.Prelude.{◌≡◌, ℕ, ◌+◌, ◌<◌, ◌≤◌, nat_le, nat_lt, ◌&&◌, ◌↔◌, if◌then◌else◌, true, false, List, length, Some, None, Ok, IfSome, ⊤}
 use Rattle.fh_event.specs.declared.reply.Item.{Item}
 use Rattle.fh_event.specs.declared.reply.Place.TheVariants as place
 use Rattle.fh_event.specs.Judging.{Makes}
@@ -7,8 +7,9 @@ use Rattle.fh_queues.specs.declared.row.Message.{Message}
 use Rattle.fh_queues.specs.declared.done.QueueDone.{QueueDone}
 use Rattle.fh_queues.specs.Asks.{Ask, Put, Take, Update}
 use Rattle.fh_queues.specs.Rows.{is_live, is_visible, row_of}
+use Rattle.fh_queues.specs.Order.{are_listed}
 use Rattle.fh_queues.specs.Part.{QueuePart}
-use Rattle.fh_queues.specs.Outcome.{outcome}
+use Rattle.fh_queues.specs.Outcome.{outcome, peeked}
 use Rattle.fh_queues.specs.Seen.{Stands, seen}
 use Rattle.fh_queues.specs.Places.{place_of}
 use Rattle.fh_queues.specs.Whole.{IsWhole}
@@ -81,3 +82,9 @@ HasShortTexts part m ask after answer = ⊤
 abbrev pub IsKnownByNumber : QueuePart → Type 0
 IsKnownByNumber part =
     (n m : ℕ) → (place_of part n m ≡ place.Unknown) ↔ ((1 ≤ n) × (n < part.next_number) → ⊥)
+
+-- what a peek lists stands in order of number
+abbrev pub ListsInOrder : QueuePart → Type 0
+ListsInOrder part =
+    (queue : List ℕ) (count m : ℕ) (items : List Item) → peeked part queue count m ≡ Ok items
+    → are_listed 0 items ≡ true

@@ -4,12 +4,18 @@ use Rattle.std.specs.Cmp.Lexicographic.{slice_cmp}
 use Rattle.std.specs.List.{list_all}
 use Rattle.std.specs.Ordering.{nat_cmp, is_lt}
 use Rattle.std.specs.Str.{bytes_eq}
+use Rattle.fh_event.specs.declared.reply.Item.{Item}
 use Rattle.fh_queues.specs.declared.row.Message.{Message}
 
 -- each number is above the one before it
 abbrev pub are_rising : ℕ → List Message → Bool
 are_rising low [] = true
 are_rising low (row ∷ rows) = nat_lt low row.number && are_rising row.number rows
+
+-- so do the items of an answer
+abbrev pub are_listed : ℕ → List Item → Bool
+are_listed low [] = true
+are_listed low (item ∷ items) = nat_lt low item.number && are_listed item.number items
 
 -- the first byte that differs is less, or there is none and the first name is the shorter one
 abbrev pub comes_before : List ℕ → List ℕ → Bool

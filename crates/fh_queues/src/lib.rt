@@ -5,7 +5,9 @@
 //! queues would be too full for. A change is a list of acts: rows that aren't live at its moment go first,
 //! and have expired. `stage` takes all its memory, and then `settle` makes exactly it and `unstage` makes
 //! nothing, both without memory. `peek`, `live`, `row` and `place_of` read. `laws` says what holds of the
-//! queues at all times and of each ask. Read `specs/Part.antt`, `Acts.antt` and `Outcome.antt` first.
+//! queues at all times and of each ask. In memory an index finds messages by number, by queue and moment, and
+//! by expiry; contracts don't see it. Read `specs/Part.antt`, `Acts.antt` and `Outcome.antt` first, and
+//! `specs/Lanes.antt` and `Index.antt` for the index.
 #![tactic(auto)]
 
 mod act;
@@ -32,8 +34,9 @@ pub use change::{QueueChange, StagedQueues};
 pub use done::{Ending, QueueDone};
 pub use laws::{
     counters_move_little, messages_are_as_told, messages_go_on_as_answered,
-    numbers_are_given_in_turn, parts_stay_whole, places_are_known, receipts_are_given_in_turn,
-    receipts_guard_messages, receipts_only_rise, takes_list_visible_messages, texts_are_short,
+    numbers_are_given_in_turn, parts_stay_whole, peeks_list_in_order_of_number, places_are_known,
+    receipts_are_given_in_turn, receipts_guard_messages, receipts_only_rise,
+    takes_list_visible_messages, texts_are_short,
 };
 pub use queues::Queues;
 pub use row::{About, Message};
