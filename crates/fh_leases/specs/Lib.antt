@@ -5,3 +5,4 @@ pub mod Acts
 pub mod Outcome
 pub mod Edits
 pub mod Faults
+pub mod Laws

@@ -12,6 +12,7 @@ mod act;
 mod ask;
 mod change;
 mod done;
+mod laws;
 mod lease;
 mod leases;
 mod planning;
@@ -21,5 +22,8 @@ mod staging;
 pub use ask::{HeldLease, LeaseAsk};
 pub use change::{LeaseChange, StagedLeases};
 pub use done::{LeaseDone, Moments};
+pub use laws::{
+    holders_are_as_told, holders_are_told, leases_have_one_holder, other_leases_stay,
+};
 pub use lease::Lease;
 pub use leases::Leases;

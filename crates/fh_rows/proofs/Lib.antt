@@ -2,3 +2,4 @@ pub mod Parts
 pub mod Places
 pub mod Order
 pub mod Spans
+pub mod Lawful
