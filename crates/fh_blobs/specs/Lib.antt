@@ -6,3 +6,4 @@ pub mod Acts
 pub mod Outcome
 pub mod Edits
 pub mod Faults
+pub mod Laws

@@ -14,6 +14,7 @@ mod blob;
 mod blobs;
 mod change;
 mod done;
+mod laws;
 mod planning;
 mod receipt;
 mod rules;
@@ -24,4 +25,8 @@ pub use blob::BlobRow;
 pub use blobs::Blobs;
 pub use change::{BlobChange, StagedBlobs};
 pub use done::BlobDone;
+pub use laws::{
+    new_versions_have_no_receipt, parts_stay_whole, receipts_are_made_once,
+    versions_are_given_in_turn,
+};
 pub use receipt::Receipt;
