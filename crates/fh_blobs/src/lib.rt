@@ -30,3 +30,6 @@ pub use laws::{
     versions_are_given_in_turn,
 };
 pub use receipt::Receipt;
+
+#[cfg(test)]
+mod tests;

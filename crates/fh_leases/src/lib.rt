@@ -27,3 +27,6 @@ pub use laws::{
 };
 pub use lease::Lease;
 pub use leases::Leases;
+
+#[cfg(test)]
+mod tests;
