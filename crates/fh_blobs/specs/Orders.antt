@@ -35,7 +35,7 @@ containers_span container = record { inside = inside; before = before }
     inside row later order here gt =
         let total = nat_list_cmp_total in
         let turned : by_text row.container container ≡ by_text row.container later.container =
-            total.antisymm row.container container ∙ ap ordering_reverse (sym (total.congr later.container container row.container here)) ∙ sym (total.antisymm row.container later.container) in
+        total.antisymm row.container container ∙ ap ordering_reverse (sym (total.congr later.container container row.container here)) ∙ sym (total.antisymm row.container later.container) in
         not_later (by_text row.container later.container) (by_text row.blob later.blob) order (sym turned ∙ behind (by_text row.container container) gt)
 
     by_first : (o : Ordering) (row later : BlobRow) → by_text row.container later.container ≡ o → ordering_then o (by_text row.blob later.blob) ≡ Less → by_text later.container container ≡ Less → by_text row.container container ≡ Less

@@ -30,7 +30,9 @@ pub enum BlobAsk<'a> {
         name: &'a str,
     },
     /// Puts each of these in order.
-    PutAll { blobs: &'a [NewBlob] },
+    PutAll {
+        blobs: &'a [NewBlob],
+    },
     /// Changes nothing: what a command asks that asks something of other stores alone.
     Nothing,
 }

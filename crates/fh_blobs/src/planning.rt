@@ -19,12 +19,7 @@ impl Blobs {
     /// The change that an ask makes, or the rule that refuses it. A change that is quiet makes nothing. No
     /// ask depends on the moment.
     #[tactic(auto, unfolding(crate::specs::Outcome::acting, crate::specs::Outcome::outcome))]
-    pub fn plan(
-        &self,
-        alloc: Global,
-        ask: &BlobAsk<'_>,
-        m: Moment,
-    ) -> Result<BlobChange, PlanFault>
+    pub fn plan(&self, alloc: Global, ask: &BlobAsk<'_>, m: Moment) -> Result<BlobChange, PlanFault>
         requires idle { IsIdle self.now }
         requires numbers { HasNumbers self.now.part }
         ensures { IsPlanOf self.now.part (outcome self.now.part (ask_of ask.now) m) result }

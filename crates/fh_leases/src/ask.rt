@@ -18,11 +18,19 @@ pub enum LeaseAsk<'a> {
         seconds: u64,
     },
     /// Makes its last holder hold the lease for its seconds, also where it has expired.
-    Renew { name: &'a str, holder: u64 },
+    Renew {
+        name: &'a str,
+        holder: u64,
+    },
     /// Ends the lease.
-    Release { name: &'a str, holder: u64 },
+    Release {
+        name: &'a str,
+        holder: u64,
+    },
     /// Renews each of these leases.
-    RenewAll { leases: &'a [HeldLease] },
+    RenewAll {
+        leases: &'a [HeldLease],
+    },
     /// Changes nothing: what a command asks that asks something of other stores alone.
     Nothing,
 }

@@ -22,9 +22,7 @@ mod staging;
 pub use ask::{HeldLease, LeaseAsk};
 pub use change::{LeaseChange, StagedLeases};
 pub use done::{LeaseDone, Moments};
-pub use laws::{
-    holders_are_as_told, holders_are_told, leases_have_one_holder, other_leases_stay,
-};
+pub use laws::{holders_are_as_told, holders_are_told, leases_have_one_holder, other_leases_stay};
 pub use lease::Lease;
 pub use leases::Leases;
 

@@ -91,12 +91,7 @@ impl Leases {
         })
     }
 
-    fn plan_release(
-        &self,
-        alloc: Global,
-        name: &str,
-        holder: u64,
-    ) -> Result<LeaseChange, PlanFault>
+    fn plan_release(&self, alloc: Global, name: &str, holder: u64) -> Result<LeaseChange, PlanFault>
         ensures { IsPlanOf self.now.part (made_by self.now.part (releasing self.now.part name.now holder)) result }
     {
         if let Err(rule) = self.owned(name, holder) {

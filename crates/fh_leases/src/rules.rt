@@ -13,6 +13,7 @@ const MOST_HOLDER: u64 = 999_999_999_999_999;
 
 /// The shortest and the longest lease, in seconds.
 const LEAST_SECONDS: u64 = 15;
+
 const MOST_SECONDS: u64 = 60;
 
 impl Leases {

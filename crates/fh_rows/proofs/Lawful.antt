@@ -86,7 +86,6 @@ module _ {Row : Type 0} (order : Row → Row → Ordering) (total : IsTotalOrder
   pub row_at-with_other : (new like : Row) (rows : List Row) → is_eq (order new like) ≡ false → row_at (λ row. order row like) (with_row order new rows) ≡ row_at (λ row. order row like) rows
   row_at-with_other new like rows apart = by_place (order like new) refl
     where
-
       turned : (o : Ordering) → is_eq (ordering_reverse o) ≡ is_eq o
       turned Less = refl
       turned Equal = refl

@@ -106,7 +106,7 @@ module _ {Row : Type 0} (order : Row → Row → Ordering) where
       within,
       λ k d from below. lower _ _ like (in_order-at rows ordered k i d below within) (found d),
       found,
-      λ k d from below. higher _ _ like (in_order-at rows ordered i k d (omega (arith, from)) below) (found d)
+      λ k d from below. higher _ _ like (in_order-at rows ordered i k d (omega (arith, from)) below) (found d),
     )
     place_of-search rows like (Err i) ordered within found =
         let parted = found (λ j k d early late. by_apart j k d early late) in
