@@ -1,0 +1,26 @@
+//! What holds of each ask that changes something, where the part before is whole. The first law carries that
+//! over every list of asks, from no blobs on.
+
+ghost use Rattle.fh_blobs.specs.Part.{BlobPart, no_blobs};
+ghost use Rattle.fh_blobs.specs.Laws.{IsWhole, OfEachAsk, StaysWhole, GivesVersionsInTurn, MakesReceiptsOnce, HasNoReceipt};
+
+/// Blobs and receipts have versions that were given.
+pub fn parts_stay_whole()
+    ensures none { IsWhole no_blobs }
+    ensures each { OfEachAsk StaysWhole }
+{}
+
+/// Versions are given from 1 on, each once and none left out.
+pub fn versions_are_given_in_turn()
+    ensures { OfEachAsk GivesVersionsInTurn }
+{}
+
+/// The receipt of a function for a version of a blob is made where it isn't there, and stays.
+pub fn receipts_are_made_once()
+    ensures { OfEachAsk MakesReceiptsOnce }
+{}
+
+/// A version that is still to be given has no receipt.
+pub fn new_versions_have_no_receipt()
+    ensures { (part : BlobPart) → IsWhole part → HasNoReceipt part }
+{}

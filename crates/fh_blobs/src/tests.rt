@@ -1,0 +1,160 @@
+ghost use Rattle.std.specs.Prelude.{◌≡◌, true};
+ghost use Rattle.fh_blobs.specs.Edits.{HasNumbers};
+
+use super::*;
+use fh_base::{Moment, NoMemory, QueueName, Rule, Text};
+use fh_event::PlanFault;
+use std::alloc::AllocGlobal;
+use std::process::Abort;
+use std::test::Fail;
+
+fn inbox() -> Result<QueueName, Fail> {
+    Ok(QueueName::read("inbox").ok_or("a container's name")?)
+}
+
+fn has_numbers(blobs: &Blobs) -> bool
+    ensures { (result ≡ true) → HasNumbers blobs.now.part }
+{
+    blobs.next_version < 1_000_000
+}
+
+// Plans, stages and settles an ask.
+fn done(
+    rt: &(impl Abort + AllocGlobal),
+    blobs: &mut Blobs,
+    ask: &BlobAsk<'_>,
+) -> Result<BlobDone, PlanFault> {
+    assert!(rt; has_numbers(blobs));
+    let Some(m) = Moment::new(0) else {
+        return Err(PlanFault::NoMemory);
+    };
+    let change = blobs.plan(rt.alloc(), ask, m)?;
+    if change.is_quiet() {
+        return Ok(change.into_done());
+    }
+    match blobs.stage(change) {
+        Err(NoMemory) => Err(PlanFault::NoMemory),
+        Ok(staged) => Ok(blobs.settle(staged)),
+    }
+}
+
+// The version that an ask is answered with, or 0 where it changes nothing.
+fn version(
+    rt: &(impl Abort + AllocGlobal),
+    blobs: &mut Blobs,
+    ask: &BlobAsk<'_>,
+) -> Result<u64, Fail> {
+    match done(rt, blobs, ask) {
+        Ok(BlobDone::Stored { version } | BlobDone::NowNoted { version }) => Ok(version),
+        Ok(BlobDone::Noted) => Ok(0),
+        Ok(_) => Err("another answer".into()),
+        Err(_) => Err("a refusal".into()),
+    }
+}
+
+fn put(
+    rt: &(impl Abort + AllocGlobal),
+    blobs: &mut Blobs,
+    name: &str,
+    text: &str,
+) -> Result<u64, Fail> {
+    let text = Text::from_str(rt.alloc(), text)?;
+    let ask = BlobAsk::Put {
+        container: inbox()?,
+        name,
+        text: &text,
+    };
+    version(rt, blobs, &ask)
+}
+
+const fn note(container: QueueName, name: &'static str) -> BlobAsk<'static> {
+    BlobAsk::Note {
+        function: 1,
+        container,
+        name,
+    }
+}
+
+#[test]
+fn a_version_is_noted_once(rt: HostRuntime) -> Result<(), Fail> {
+    let mut blobs = Blobs::new(rt.alloc());
+    let ask = note(inbox()?, "a.txt");
+    assert_eq!(rt; put(&rt, &mut blobs, "a.txt", "x")?, 1);
+    assert_eq!(rt; version(&rt, &mut blobs, &ask)?, 1);
+    assert_eq!(rt; version(&rt, &mut blobs, &ask)?, 0);
+    assert_eq!(rt; put(&rt, &mut blobs, "a.txt", "y")?, 2);
+    assert_eq!(rt; version(&rt, &mut blobs, &ask)?, 2);
+    let missing = done(&rt, &mut blobs, &note(inbox()?, "b.txt"));
+    assert!(rt; matches!(missing, Err(PlanFault::Rule(Rule::BlobNotFound))));
+    Ok(())
+}
+
+#[test]
+fn unnoted_blobs_are_listed_in_order(rt: HostRuntime) -> Result<(), Fail> {
+    let mut blobs = Blobs::new(rt.alloc());
+    for name in ["b", "c", "a"] {
+        put(&rt, &mut blobs, name, "x")?;
+    }
+    version(&rt, &mut blobs, &note(inbox()?, "b"))?;
+    let names = blobs.unnoted(rt.alloc(), 1, &inbox()?)?;
+    let mut listed = String::new(rt.alloc());
+    for name in &names {
+        listed.push_str(name.as_str())?;
+    }
+    assert_eq!(rt; listed.as_str(), "ac");
+    let remove = BlobAsk::Remove {
+        container: inbox()?,
+        name: "a",
+    };
+    let removed = done(&rt, &mut blobs, &remove);
+    assert!(rt; matches!(removed, Ok(BlobDone::Removed)));
+    assert!(rt; blobs.get(&inbox()?, "a").is_none());
+    Ok(())
+}
+
+#[test]
+fn a_list_is_put_at_once(rt: HostRuntime) -> Result<(), Fail> {
+    let mut blobs = Blobs::new(rt.alloc());
+    let new = NewBlob {
+        container: inbox()?,
+        name: Text::from_str(rt.alloc(), "a")?,
+        text: Text::from_str(rt.alloc(), "x")?,
+    };
+    let list = [new];
+    let stored = done(&rt, &mut blobs, &BlobAsk::PutAll { blobs: &list });
+    assert!(rt; matches!(stored, Ok(BlobDone::AllStored { first: 1, count: 1 })));
+    let nothing = done(&rt, &mut blobs, &BlobAsk::Nothing);
+    assert!(rt; matches!(nothing, Ok(BlobDone::Nothing)));
+    Ok(())
+}
+
+#[test]
+fn a_text_has_1048576_bytes_at_most(rt: HostRuntime) -> Result<(), Fail> {
+    let mut blobs = Blobs::new(rt.alloc());
+    for (size, fits) in [(1_048_576, true), (1_048_577, false)] {
+        let text = Text::new("x".repeat(rt.alloc(), size)?);
+        let ask = BlobAsk::Put {
+            container: inbox()?,
+            name: "a",
+            text: &text,
+        };
+        let answer = done(&rt, &mut blobs, &ask);
+        assert_eq!(rt; answer.is_ok(), fits);
+    }
+    Ok(())
+}
+
+#[test]
+fn a_hundred_thousand_blobs_are_put_and_read(rt: HostRuntime) -> Result<(), Fail> {
+    let mut blobs = Blobs::new(rt.alloc());
+    // The names come in no order.
+    for i in 0..100_000u64 {
+        let name = format!(in rt.alloc(); "{}", i * 7919 % 100_000)?;
+        put(&rt, &mut blobs, name.as_str(), "x")?;
+    }
+    for i in 0..100_000u64 {
+        let name = format!(in rt.alloc(); "{}", i)?;
+        assert!(rt; blobs.get(&inbox()?, name.as_str()).is_some());
+    }
+    Ok(())
+}

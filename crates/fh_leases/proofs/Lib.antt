@@ -1,0 +1,4 @@
+pub mod Owned
+pub mod Naming
+pub mod Telling
+pub mod Lawful

@@ -1,0 +1,5 @@
+pub mod Parts
+pub mod Places
+pub mod Order
+pub mod Spans
+pub mod Lawful
