@@ -13,6 +13,7 @@
 //! (`printed_texts_are_read`).
 #![tactic(auto)]
 
+mod answerer;
 mod ends;
 mod faults;
 mod forms;
@@ -20,12 +21,10 @@ mod grammar;
 mod laws;
 mod lines;
 mod running;
-mod session;
 mod words;
 
-pub use ends::End;
-pub use faults::LineFault;
-pub use grammar::{Line, read_command};
+pub use faults::WordFault;
+pub use grammar::{LineAsk, line_ask};
 pub use laws::printed_texts_are_read;
 pub use running::script;
 
