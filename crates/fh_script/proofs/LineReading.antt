@@ -10,60 +10,50 @@ use Rattle.fh_script.specs.Lines.{FindsEnd, FindsLine, IsFirstLine, StartsLong, 
 abbrev pub is_plain : List ℕ → Bool
 is_plain line = list_all (λ b. not (is_line_feed b)) line
 
-first_plain : (b : ℕ) (line : List ℕ) → is_plain (b ∷ line) ≡ true → is_line_feed b ≡ false
-first_plain b line plain = by_cases (is_line_feed b) (is_plain line) plain
+plain_parts : (b : ℕ) (line : List ℕ) → is_plain (b ∷ line) ≡ true → (is_line_feed b ≡ false) × (is_plain line ≡ true)
+plain_parts b line plain = by_cases (is_line_feed b) (is_plain line) plain
   where
-    by_cases : (f r : Bool) → (not f && r) ≡ true → f ≡ false
-    by_cases true r both = sym both
-    by_cases false r both = refl
-
-rest_plain : (b : ℕ) (line : List ℕ) → is_plain (b ∷ line) ≡ true → is_plain line ≡ true
-rest_plain b line plain = by_cases (is_line_feed b) (is_plain line) plain
-  where
-    by_cases : (f r : Bool) → (not f && r) ≡ true → r ≡ true
-    by_cases true r both = cc
-    by_cases false r both = both
+    by_cases : (f r : Bool) → (not f && r) ≡ true → (f ≡ false) × (r ≡ true)
+    by_cases true r both = absurd (cc)
+    by_cases false r both = (refl, both)
 
 plain-push : (line : List ℕ) (b : ℕ) → is_plain line ≡ true → (b ≡ 10 → ⊥) → is_plain (line ++ b ∷ []) ≡ true
 plain-push [] b plain other = grind (arith, nat_tests)
-plain-push (d ∷ line) b plain other = rw (first_plain d line plain) (plain-push line b (rest_plain d line plain) other)
+plain-push (d ∷ line) b plain other = rw ((plain_parts d line plain).0) (plain-push line b ((plain_parts d line plain).1) other)
 
 lines-ended : (line rest : List ℕ) → is_plain line ≡ true → lines (line ++ 10 ∷ rest) ≡ (line ++ 10 ∷ []) ∷ lines rest
 lines-ended [] rest plain = refl
-lines-ended (b ∷ line) rest plain = rw (first_plain b line plain) (ap (before_lines b) (lines-ended line rest (rest_plain b line plain)))
+lines-ended (b ∷ line) rest plain = rw (plain_parts b line plain).0 (ap (before_lines b) (lines-ended line rest (plain_parts b line plain).1))
 
 lines-last : (b : ℕ) (line : List ℕ) → is_plain (b ∷ line) ≡ true → lines (b ∷ line) ≡ (b ∷ line) ∷ []
-lines-last b [] plain = rw (first_plain b [] plain) refl
-lines-last b (d ∷ line) plain = rw (first_plain b (d ∷ line) plain) (ap (before_lines b) (lines-last d line (rest_plain b (d ∷ line) plain)))
+lines-last b [] plain = rw (plain_parts b [] plain).0 refl
+lines-last b (d ∷ line) plain = rw (plain_parts b (d ∷ line) plain).0 (ap (before_lines b) (lines-last d line (plain_parts b (d ∷ line) plain).1))
 
 line_length-ended : (line : List ℕ) → is_plain line ≡ true → line_length (line ++ 10 ∷ []) ≡ length line
 line_length-ended [] plain = refl
-line_length-ended (b ∷ line) plain = rw (first_plain b line plain) (omega (arith, line_length-ended line (rest_plain b line plain)))
+line_length-ended (b ∷ line) plain = rw (plain_parts b line plain).0 (omega (arith, line_length-ended line (plain_parts b line plain).1))
 
 length-le-line_length : (line rest : List ℕ) → is_plain line ≡ true → length line ≤ line_length (line ++ rest)
 length-le-line_length [] rest plain = omega arith
-length-le-line_length (b ∷ line) rest plain = rw (first_plain b line plain) (omega (arith, length-le-line_length line rest (rest_plain b line plain)))
+length-le-line_length (b ∷ line) rest plain = rw (plain_parts b line plain).0 (omega (arith, length-le-line_length line rest (plain_parts b line plain).1))
 
 line_length-le : (line : List ℕ) → line_length line ≤ length line
 line_length-le [] = omega arith
-line_length-le (b ∷ line) = by_cases (is_line_feed b) (line_length-le line)
+line_length-le (b ∷ line) = shorter b line (line_length-le line)
   where
-    by_cases : (f : Bool) → line_length line ≤ length line → (if f then 0 else line_length line + 1) ≤ length (b ∷ line)
-    by_cases true shorter = omega arith
-    by_cases false shorter = omega arith
+    shorter : (b : ℕ) (line : List ℕ) → line_length line ≤ length line → line_length (b ∷ line) ≤ length (b ∷ line)
+    shorter b line behind = grind (arith, nat_tests)
 
 pub line_feeds-append : (a b : List ℕ) → line_feeds (a ++ b) ≡ line_feeds a + line_feeds b
 line_feeds-append [] b = omega arith
-line_feeds-append (x ∷ a) b = by_cases (is_line_feed x) (line_feeds-append a b)
+line_feeds-append (x ∷ a) b = one_more x a b (line_feeds-append a b)
   where
-    by_cases : (f : Bool) → line_feeds (a ++ b) ≡ line_feeds a + line_feeds b
-        → (if f then line_feeds (a ++ b) + 1 else line_feeds (a ++ b)) ≡ (if f then line_feeds a + 1 else line_feeds a) + line_feeds b
-    by_cases true behind = omega (arith, behind)
-    by_cases false behind = behind
+    one_more : (x : ℕ) (a b : List ℕ) → line_feeds (a ++ b) ≡ line_feeds a + line_feeds b → line_feeds (x ∷ a ++ b) ≡ line_feeds (x ∷ a) + line_feeds b
+    one_more x a b behind = grind (arith, nat_tests)
 
 pub line_feeds-plain : (line : List ℕ) → is_plain line ≡ true → line_feeds line ≡ 0
 line_feeds-plain [] plain = refl
-line_feeds-plain (b ∷ line) plain = rw (first_plain b line plain) (line_feeds-plain line (rest_plain b line plain))
+line_feeds-plain (b ∷ line) plain = rw (plain_parts b line plain).0 (line_feeds-plain line (plain_parts b line plain).1)
 
 not_ended : (line : List ℕ) → is_plain line ≡ true → is_ended line ≡ true → ⊥
 not_ended line plain ended =

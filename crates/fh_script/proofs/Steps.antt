@@ -22,20 +22,12 @@ module _ (told : Option (List ℕ)) (images : List ℕ → Type 0) where
   pub kept : (torn : Bool) (history : List Entry) (failed : Entry) (gate : ℕ) → torn ≡ false
       → Holds told images history gate → KeepsHistory told images torn history failed gate
   kept true history failed gate whole holds = absurd (cc)
-  kept false history failed gate whole holds = record { keeps = of_told told holds; legal = λ torn. absurd (cc) }
-    where
-      of_told : (bytes : Option (List ℕ)) → Holds bytes images history gate → Keeps bytes images false (payloads_of history) (bytes_of failed) gate
-      of_told None keeps = tt
-      of_told (Some file) keeps = record { as_read = keeps.as_read; after_crash = keeps.after_crash }
+  kept false history failed gate whole holds = record { keeps = holds; legal = λ torn. absurd (cc) }
 
   held : (torn : Bool) (history : List Entry) (failed : Entry) (gate : ℕ) → torn ≡ false
       → KeepsHistory told images torn history failed gate → Holds told images history gate
   held true history failed gate whole kept = absurd (cc)
-  held false history failed gate whole kept = of_told told kept.keeps
-    where
-      of_told : (bytes : Option (List ℕ)) → Keeps bytes images false (payloads_of history) (bytes_of failed) gate → Holds bytes images history gate
-      of_told None keeps = tt
-      of_told (Some file) keeps = record { as_read = keeps.as_read; after_crash = keeps.after_crash }
+  held false history failed gate whole kept = kept.keeps
 
   -- behind a step that went well
   pub held_again : (torn : Bool) (history : List Entry) (failed e : Entry) (gate : ℕ) → torn ≡ false

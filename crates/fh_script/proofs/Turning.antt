@@ -1,5 +1,5 @@
 -- How a run goes on from the lines before the next one, and how it ends there.
-use Rattle.std.proofs.Common.{◌≡◌, ◌≢◌, ◌⊎◌, inl, inr, ℕ, ◌+◌, ◌<◌, ◌≤◌, Bool, true, false, ◌&&◌, List, [], ◌∷◌, ◌++◌, length, take, Option, Some, None, IfSome, Result, Ok, Err, refl, sym, ◌∙◌, ap, subst, arith, append_assoc, append-nil, length-append}
+use Rattle.std.proofs.Common.{◌≡◌, ◌≢◌, ◌⊎◌, inl, inr, ℕ, ◌+◌, ◌==◌, ◌<◌, ◌≤◌, Bool, true, false, ◌&&◌, List, [], ◌∷◌, ◌++◌, length, take, Option, Some, None, IfSome, Result, Ok, Err, refl, sym, ◌∙◌, ap, subst, MatchBool, arith, append_assoc, append-nil, length-append}
 use Rattle.std.specs.List.{list_all}
 use Rattle.std.proofs.lemmas.List.Folds.{list_all-append}
 use Rattle.std.proofs.lemmas.List.Sums.{fold-append}
@@ -79,104 +79,137 @@ outside_at J left reads written writes disk = record {
   disk_faults = J.disk_faults disk;
 }
 
-module _ {D : Type 0} {J : Ghosts D} (was : Outside) (first : D) (answerer : Answerer D J) (left written : Option (List ℕ)) (reads writes : ℕ) where
-  -- no line stands behind those that are answered
-  ran : (now_left : Option (List ℕ)) (lines : Answered was left written)
-      → answerer.hub.state.history ≡ lines.opening ++ (run lines.opening lines.done).entries → HoldsIn answerer.hub
-      → crash_of J first answerer.hub.journal.disk.now (StandsForPart lines.opening answerer.hub.state.history)
-      → (taken : List ℕ) → Consumes left now_left taken → length taken ≤ 140001
-      → Ran was (outside_at J now_left reads written writes answerer.hub.journal.disk.now) (crash_of J first answerer.hub.journal.disk.now) None None
-  ran now_left lines history holds images taken consumed few =
-      let disk = answerer.hub.journal.disk.now in
-      record {
-        left = left;
-        lines = lines;
-        taken = taken;
-        consumed = consumed;
-        few = few;
-        only = tt;
-        stands =
-            subst (λ (h : List Entry). IfSome (J.told disk) (StandsForHistory h)) history
-            (stands (J.told disk) (J.may_leave disk) answerer.hub.state.history answerer.hub.journal.gate holds);
-        images = subst (λ (h : List Entry). crash_of J first disk (StandsForPart lines.opening h)) history images;
-      }
+-- A run whose hub is this one.
+module _ {D : Type 0} {J : Ghosts D} (was : Outside) (first : D) (answerer : Answerer D J) where
+  abbrev disk : D
+  disk = answerer.hub.journal.disk.now
 
-  -- the lines end where the journal stands for the hub's history
-  ends : (now_left : Option (List ℕ)) (end : PlainEnd) → HoldsIn answerer.hub → StaysTold (J.told first) (J.told answerer.hub.journal.disk.now)
-      → HasPlainReason was (outside_at J now_left reads written writes answerer.hub.journal.disk.now) (crash_of J first answerer.hub.journal.disk.now) end
-      → Counts was (outside_at J now_left reads written writes answerer.hub.journal.disk.now) (plain_code end) → is_of_lines (plain_code end) ≡ true
-      → LinesEnd J was (outside_at J now_left reads written writes answerer.hub.journal.disk.now) first answerer.hub.journal.disk.now end
-  ends now_left end holds told reason counts of_lines =
-      let disk = answerer.hub.journal.disk.now in
-      record {
-        reason = reason;
-        counts = counts;
-        told = told;
-        durable = λ certain. survives (J.told disk) (J.may_leave disk) answerer.hub.state.history answerer.hub.journal.gate holds;
-        of_lines = of_lines;
-      }
+  abbrev history : List Entry
+  history = answerer.hub.state.history
+
+  abbrev Leaves : Imaging
+  Leaves = crash_of J first disk
+
+  stands_as : (h : List Entry) → history ≡ h → HoldsIn answerer.hub → IfSome (J.told disk) (StandsForHistory h)
+  stands_as h is holds =
+      subst (λ (h : List Entry). IfSome (J.told disk) (StandsForHistory h)) is
+      (stands (J.told disk) (J.may_leave disk) history answerer.hub.journal.gate holds)
+
+  module _ (left written now_left : Option (List ℕ)) (reads writes : ℕ) where
+    abbrev Now : Outside
+    Now = outside_at J now_left reads written writes disk
+
+    -- no line stands behind those that are answered
+    ran : (lines : Answered was left written) → history ≡ lines.opening ++ (run lines.opening lines.done).entries
+        → HoldsIn answerer.hub → Leaves (StandsForPart lines.opening history)
+        → (taken : List ℕ) → Consumes left now_left taken → length taken ≤ 140001 → Ran was Now Leaves None None
+    ran lines grows holds images taken consumed few = record {
+      left = left;
+      lines = lines;
+      taken = taken;
+      consumed = consumed;
+      few = few;
+      only = tt;
+      stands = stands_as _ grows holds;
+      images = subst (λ (h : List Entry). Leaves (StandsForPart lines.opening h)) grows images;
+    }
+
+    -- the lines end where the journal stands for the hub's history
+    ends : (end : PlainEnd) → HoldsIn answerer.hub → StaysTold (J.told first) (J.told disk)
+        → HasPlainReason was Now Leaves end → Counts was Now (plain_code end) → is_of_lines (plain_code end) ≡ true
+        → LinesEnd J was Now first disk end
+    ends end holds told reason counts of_lines = record {
+      reason = reason;
+      counts = counts;
+      told = told;
+      durable = λ certain. survives (J.told disk) (J.may_leave disk) history answerer.hub.journal.gate holds;
+      of_lines = of_lines;
+    }
 
 -- Where no line was read.
-module _ {D : Type 0} {J : Ghosts D} (was : Outside) (first : D) (answerer : Answerer D J) (left written now_left : Option (List ℕ)) (reads writes now_reads : ℕ)
+module _ {D : Type 0} {J : Ghosts D} (was : Outside) (first : D) (answerer : Answerer D J)
+    (left written now_left : Option (List ℕ)) (reads writes now_reads : ℕ)
     (it : Running was (outside_at J left reads written writes answerer.hub.journal.disk.now) first answerer) where
+  abbrev Here : Outside
+  Here = outside_at J now_left now_reads written writes answerer.hub.journal.disk.now
+
   abbrev Ends : PlainEnd → Type 0
-  Ends end = LinesEnd J was (outside_at J now_left now_reads written writes answerer.hub.journal.disk.now) first answerer.hub.journal.disk.now end
+  Ends end = LinesEnd J was Here first answerer.hub.journal.disk.now end
 
   ran_here : (taken : List ℕ) → Consumes left now_left taken → length taken ≤ 140001
-      → Ran was (outside_at J now_left now_reads written writes answerer.hub.journal.disk.now) (crash_of J first answerer.hub.journal.disk.now) None None
-  ran_here = ran was first answerer left written now_reads writes now_left it.lines it.history it.holds it.images
+      → Ran was Here (crash_of J first answerer.hub.journal.disk.now) None None
+  ran_here = ran was first answerer left written now_left now_reads writes it.lines it.history it.holds it.images
 
-  ends_here : (end : PlainEnd)
-      → HasPlainReason was (outside_at J now_left now_reads written writes answerer.hub.journal.disk.now) (crash_of J first answerer.hub.journal.disk.now) end
-      → Counts was (outside_at J now_left now_reads written writes answerer.hub.journal.disk.now) (plain_code end) → is_of_lines (plain_code end) ≡ true
-      → Ends end
-  ends_here end = ends was first answerer left written now_reads writes now_left end it.holds it.told
+  counts_here : (code : ℕ) → MatchBool (code == 5) (Rose reads now_reads) (now_reads ≡ reads) → (code == 6) ≡ false
+      → (code == 7) ≡ false → Counts was Here code
+  counts_here code reading no_disk no_writing = record {
+    reading = subst (λ (n : ℕ). MatchBool (code == 5) (Rose n now_reads) (now_reads ≡ n)) it.counts.reading reading;
+    disk = rw no_disk it.counts.disk;
+    writing = rw no_writing it.counts.writing;
+  }
+
+  ends_here : (end : PlainEnd) → HasPlainReason was Here (crash_of J first answerer.hub.journal.disk.now) end
+      → Counts was Here (plain_code end) → is_of_lines (plain_code end) ≡ true → Ends end
+  ends_here end = ends was first answerer left written now_left now_reads writes end it.holds it.told
 
   pub finished : FindsEnd left now_left → now_reads ≡ reads → Ends Finished
   unfolding ran_here ran
   finished found same =
-      ends_here Finished (ran_here [] found.consumed (omega arith), (found.was_ended, found.ended))
-      (record { reading = same ∙ it.counts.reading; disk = it.counts.disk; writing = it.counts.writing }) refl
+      ends_here Finished (ran_here [] found.consumed (omega arith), (found.was_ended, found.ended)) (counts_here 0 same refl refl) refl
 
-  pub reading_stops : (fault : LineFault) → HasLineReason left now_left fault → CountsRead {T = Bool} reads now_reads (Err fault) → Ends (end_of_read fault)
+  pub reading_stops : (fault : LineFault) → HasLineReason left now_left fault → CountsRead {T = Bool} reads now_reads (Err fault)
+      → Ends (end_of_read fault)
   unfolding ran_here ran
   reading_stops faults.ReadFault reason counts =
       ends_here ReadFault (ran_here reason.took.taken reason.took.consumed reason.took.few,
-      omega (arith, line_feeds-append (joined it.lines.done) reason.took.taken, it.feeds, reason.part))
-      (record { reading = subst (λ (n : ℕ). Rose n now_reads) it.counts.reading counts; disk = it.counts.disk; writing = it.counts.writing }) refl
+      omega (arith, line_feeds-append (joined it.lines.done) reason.took.taken, it.feeds, reason.part)) (counts_here 5 counts refl refl) refl
   reading_stops faults.TooLong reason counts =
-      ends_here LongLine (ran_here reason.1.taken reason.1.consumed reason.1.few, reason.0)
-      (record { reading = counts ∙ it.counts.reading; disk = it.counts.disk; writing = it.counts.writing }) refl
+      ends_here LongLine (ran_here reason.1.taken reason.1.consumed reason.1.few, reason.0) (counts_here 8 counts refl refl) refl
   reading_stops faults.NoMemory reason counts =
-      ends_here NoMemory (inl (ran_here reason.taken reason.consumed reason.few))
-      (record { reading = counts ∙ it.counts.reading; disk = it.counts.disk; writing = it.counts.writing }) refl
+      ends_here NoMemory (inl (ran_here reason.taken reason.consumed reason.few)) (counts_here 9 counts refl refl) refl
 
 -- Where a line was read, and something was done of it.
-module _ {D : Type 0} {J : Ghosts D} (was : Outside) (first : D) (old new : Answerer D J) (left written now_left : Option (List ℕ)) (reads writes now_reads : ℕ)
+module _ {D : Type 0} {J : Ghosts D} (was : Outside) (first : D) (old new : Answerer D J)
+    (left written now_left : Option (List ℕ)) (reads writes now_reads : ℕ)
     (it : Running was (outside_at J left reads written writes old.hub.journal.disk.now) first old) (line : List ℕ)
     (found : FindsLine left now_left line) (same : now_reads ≡ reads)
     (moves : LeavesSince old.hub new.hub (StandsEither old.hub.state.history (done_in old line).entries)) (stays : StaysToldIn old new) where
-  told : StaysTold (J.told first) (J.told new.hub.journal.disk.now)
-  told = stays_told (J.told first) (J.told old.hub.journal.disk.now) (J.told new.hub.journal.disk.now) it.told stays
+  abbrev now_disk : D
+  now_disk = new.hub.journal.disk.now
 
-  after : run it.lines.opening (it.lines.done ++ line ∷ []) ≡ after_line (run it.lines.opening it.lines.done) line
-  after = run-push it.lines.opening it.lines.done line
+  abbrev There : Option (List ℕ) → ℕ → Outside
+  There now_written now_writes = outside_at J now_left now_reads now_written now_writes now_disk
 
-  longer : old.hub.state.history ++ (done_in old line).entries ≡ it.lines.opening ++ (run it.lines.opening (it.lines.done ++ line ∷ [])).entries
+  abbrev Stands : List Entry → Type 0
+  Stands h = IfSome (J.told now_disk) (StandsForHistory h)
+
+  abbrev opening : List Entry
+  opening = it.lines.opening
+
+  -- the history with the line's entries
+  abbrev longer_history : List Entry
+  longer_history = old.hub.state.history ++ (done_in old line).entries
+
+  told : StaysTold (J.told first) (J.told now_disk)
+  told = stays_told (J.told first) (J.told old.hub.journal.disk.now) (J.told now_disk) it.told stays
+
+  after : run opening (it.lines.done ++ line ∷ []) ≡ after_line (run opening it.lines.done) line
+  after = run-push opening it.lines.done line
+
+  longer : longer_history ≡ opening ++ (run opening (it.lines.done ++ line ∷ [])).entries
   longer =
       rw (after, ← it.world, ← it.moment)
       (ap (λ (h : List Entry). h ++ (done_in old line).entries) it.history
-      ∙ append_assoc it.lines.opening (run it.lines.opening it.lines.done).entries (done_in old line).entries)
+      ∙ append_assoc opening (run opening it.lines.done).entries (done_in old line).entries)
 
-  images : crash_of J first new.hub.journal.disk.now (StandsForPart it.lines.opening (old.hub.state.history ++ (done_in old line).entries))
+  images : crash_of J first now_disk (StandsForPart opening longer_history)
   images =
-      more_images J first old.hub.journal.disk.now new.hub.journal.disk.now it.lines.opening old.hub.state.history
-      (run it.lines.opening it.lines.done).entries (done_in old line).entries it.history it.told it.images moves
+      more_images J first old.hub.journal.disk.now now_disk opening old.hub.state.history
+      (run opening it.lines.done).entries (done_in old line).entries it.history it.told it.images moves
 
   -- the line stands behind those that are answered
-  ran_line : (now_writes : ℕ) (made : Option (List ℕ))
-      → IfSome (J.told new.hub.journal.disk.now) (StandsForHistory (it.lines.opening ++ (run it.lines.opening (with_line it.lines.done made)).entries))
-      → Ran was (outside_at J now_left now_reads written now_writes new.hub.journal.disk.now) (crash_of J first new.hub.journal.disk.now) (Some line) made
+  ran_line : (now_writes : ℕ) (made : Option (List ℕ)) → Stands (opening ++ (run opening (with_line it.lines.done made)).entries)
+      → Ran was (There written now_writes) (crash_of J first now_disk) (Some line) made
   ran_line now_writes made stands_now = record {
     left = left;
     lines = it.lines;
@@ -185,118 +218,108 @@ module _ {D : Type 0} {J : Ghosts D} (was : Outside) (first : D) (old new : Answ
     few = found.stored;
     only = (refl, found.first);
     stands = stands_now;
-    images = subst (λ (h : List Entry). crash_of J first new.hub.journal.disk.now (StandsForPart it.lines.opening h)) longer images;
+    images = subst (λ (h : List Entry). crash_of J first now_disk (StandsForPart opening h)) longer images;
   }
 
-  stands_behind : IfSome (J.told new.hub.journal.disk.now) (StandsForHistory (old.hub.state.history ++ (done_in old line).entries))
-      → IfSome (J.told new.hub.journal.disk.now) (StandsForHistory (it.lines.opening ++ (run it.lines.opening (it.lines.done ++ line ∷ [])).entries))
-  stands_behind stood = subst (λ (h : List Entry). IfSome (J.told new.hub.journal.disk.now) (StandsForHistory h)) longer stood
-
-  stands_new : (history : List Entry) → new.hub.state.history ≡ history → HoldsIn new.hub → IfSome (J.told new.hub.journal.disk.now) (StandsForHistory history)
-  stands_new history is holds =
-      let disk = new.hub.journal.disk.now in
-      subst (λ (h : List Entry). IfSome (J.told disk) (StandsForHistory h)) is
-      (stands (J.told disk) (J.may_leave disk) new.hub.state.history new.hub.journal.gate holds)
-
-  lacks_memory : LacksMemory old new (done_in old line).entries
-      → HasPlainReason was (outside_at J now_left now_reads written writes new.hub.journal.disk.now) (crash_of J first new.hub.journal.disk.now) NoMemory
-  lacks_memory lacks = by_case lacks.made
-    where
-      by_case : (new.hub.journal.disk.now ≡ old.hub.journal.disk.now) × (new.hub.state.history ≡ old.hub.state.history)
-          ⊎ (new.hub.state.history ≡ old.hub.state.history ++ (done_in old line).entries)
-          → HasPlainReason was (outside_at J now_left now_reads written writes new.hub.journal.disk.now) (crash_of J first new.hub.journal.disk.now) NoMemory
-      by_case (inl before) =
-          inl (ran was first new left written now_reads writes now_left it.lines (before.1 ∙ it.history) lacks.holds
-          (subst (λ (d : D). crash_of J first d (StandsForPart it.lines.opening new.hub.state.history)) (sym before.0)
-          (subst (λ (h : List Entry). crash_of J first old.hub.journal.disk.now (StandsForPart it.lines.opening h)) (sym before.1) it.images))
-          line found.consumed found.stored)
-      by_case (inr grown) = inr (line, ran_line writes (Some line) (stands_behind (stands_new _ grown lacks.holds)))
+  lacks_memory : HoldsIn new.hub → (now_disk ≡ old.hub.journal.disk.now) × (new.hub.state.history ≡ old.hub.state.history)
+      ⊎ (new.hub.state.history ≡ longer_history) → HasPlainReason was (There written writes) (crash_of J first now_disk) NoMemory
+  lacks_memory holds (inl before) =
+      inl (ran was first new left written now_left now_reads writes it.lines (before.1 ∙ it.history) holds
+      (rw (before.0, before.1) it.images) line found.consumed found.stored)
+  lacks_memory holds (inr grown) = inr (line, ran_line writes (Some line) (stands_as was first new _ (grown ∙ longer) holds))
 
   pub answer_stops : (fault : AnswerFault) → HasNoAnswer old new (done_in old line).entries fault
       → CountsAnswer {T = Bool} (faults_of old.hub) (faults_of new.hub) (Err fault)
-      → LinesEnd J was (outside_at J now_left now_reads written writes new.hub.journal.disk.now) first new.hub.journal.disk.now (end_of_answer fault)
+      → LinesEnd J was (There written writes) first now_disk (end_of_answer fault)
   answer_stops answers.DiskFault either counts = record {
-    reason = (line, by_case (one_of_two (J.told new.hub.journal.disk.now) (StandsForHistory old.hub.state.history)
-        (StandsForHistory (old.hub.state.history ++ (done_in old line).entries)) either));
-    counts = record { reading = same ∙ it.counts.reading; disk = subst (λ (n : ℕ). Rose n (faults_of new.hub)) it.counts.disk counts; writing = it.counts.writing };
+    reason = (line, by_case (one_of_two (J.told now_disk) (StandsForHistory old.hub.state.history) (StandsForHistory longer_history) either));
+    counts = record {
+      reading = same ∙ it.counts.reading;
+      disk = subst (λ (n : ℕ). Rose n (faults_of new.hub)) it.counts.disk counts;
+      writing = it.counts.writing;
+    };
     told = told;
     durable = λ certain. absurd (cc);
     of_lines = refl;
   }
     where
-      by_case : IfSome (J.told new.hub.journal.disk.now) (StandsForHistory old.hub.state.history)
-          ⊎ IfSome (J.told new.hub.journal.disk.now) (StandsForHistory (old.hub.state.history ++ (done_in old line).entries))
-          → Ran was (outside_at J now_left now_reads written writes new.hub.journal.disk.now) (crash_of J first new.hub.journal.disk.now) (Some line) None
-          ⊎ Ran was (outside_at J now_left now_reads written writes new.hub.journal.disk.now) (crash_of J first new.hub.journal.disk.now) (Some line) (Some line)
-      by_case (inl before) = inl (ran_line writes None (subst (λ (h : List Entry). IfSome (J.told new.hub.journal.disk.now) (StandsForHistory h)) it.history before))
-      by_case (inr behind) = inr (ran_line writes (Some line) (stands_behind behind))
+      by_case : Stands old.hub.state.history ⊎ Stands longer_history
+          → Ran was (There written writes) (crash_of J first now_disk) (Some line) None
+          ⊎ Ran was (There written writes) (crash_of J first now_disk) (Some line) (Some line)
+      by_case (inl before) = inl (ran_line writes None (subst (λ (h : List Entry). Stands h) it.history before))
+      by_case (inr behind) = inr (ran_line writes (Some line) (subst (λ (h : List Entry). Stands h) longer behind))
   answer_stops answers.NoMemory lacks counts =
-      ends was first new left written now_reads writes now_left NoMemory lacks.holds told (lacks_memory lacks)
+      ends was first new left written now_left now_reads writes NoMemory lacks.holds told (lacks_memory lacks.holds lacks.made)
       (record { reading = same ∙ it.counts.reading; disk = counts ∙ it.counts.disk; writing = it.counts.writing }) refl
 
   -- Where the line was answered.
-  module _ (text : List ℕ) (does : HasDone old new (done_in old line) text) (passed : faults_of new.hub ≡ faults_of old.hub) where
-    history : new.hub.state.history ≡ it.lines.opening ++ (run it.lines.opening (it.lines.done ++ line ∷ [])).entries
-    history = does.history ∙ longer
+  module _ (text : List ℕ) (does : HasDone old new (done_in old line) text) (passed : faults_of new.hub ≡ faults_of old.hub)
+      (now_written : Option (List ℕ)) (now_writes : ℕ) where
+    grows : new.hub.state.history ≡ opening ++ (run opening (it.lines.done ++ line ∷ [])).entries
+    grows = does.history ∙ longer
 
-    images_new : crash_of J first new.hub.journal.disk.now (StandsForPart it.lines.opening new.hub.state.history)
-    images_new = subst (λ (h : List Entry). crash_of J first new.hub.journal.disk.now (StandsForPart it.lines.opening h)) (sym does.history) images
+    images_new : crash_of J first now_disk (StandsForPart opening new.hub.state.history)
+    images_new = rw does.history images
 
     -- its answer was written in part
-    pub writing_stops : (now_written : Option (List ℕ)) (now_writes size : ℕ) → size < length text → Appends written now_written (take size text) → Rose writes now_writes
-        → LinesEnd J was (outside_at J now_left now_reads now_written now_writes new.hub.journal.disk.now) first new.hub.journal.disk.now WriteFault
+    pub writing_stops : (size : ℕ) → size < length text → Appends written now_written (take size text) → Rose writes now_writes
+        → LinesEnd J was (There now_written now_writes) first now_disk WriteFault
     unfolding answer_line ran_line
-    writing_stops now_written now_writes size part cut rose =
-        ends was first new left now_written now_reads now_writes now_left WriteFault does.holds told
+    writing_stops size part cut rose =
+        ends was first new left now_written now_left now_reads now_writes WriteFault does.holds told
         (record {
           before = written;
           line = line;
-          ran = ran_line now_writes (Some line) (stands_new _ history does.holds);
+          ran = ran_line now_writes (Some line) (stands_as was first new _ grows does.holds);
           size = size;
           part = rw (← it.world, ← it.moment, ← does.answer) part;
           cut = rw (← it.world, ← it.moment, ← does.answer) cut;
         })
-        (record { reading = same ∙ it.counts.reading; disk = passed ∙ it.counts.disk; writing = subst (λ (n : ℕ). Rose n now_writes) it.counts.writing rose }) refl
+        (record {
+          reading = same ∙ it.counts.reading;
+          disk = passed ∙ it.counts.disk;
+          writing = subst (λ (n : ℕ). Rose n now_writes) it.counts.writing rose;
+        }) refl
 
-    module _ (now_written : Option (List ℕ)) (now_writes : ℕ) (writes_text : Appends written now_written text) (wrote : now_writes ≡ writes) where
+    module _ (writes_text : Appends written now_written text) (wrote : now_writes ≡ writes) where
       pushed : Answered was now_left now_written
       pushed = record {
-        opening = it.lines.opening;
+        opening = opening;
         legal = it.lines.legal;
         stood = it.lines.stood;
         done = it.lines.done ++ line ∷ [];
         read = reads-push was.left left now_left it.lines.done line it.lines.read found.first;
         consumed =
-            subst (λ (l : List ℕ). Consumes was.left now_left l) (sym (joined-push it.lines.done line))
+            rw (joined-push it.lines.done line)
             (consumes-append was.left left now_left (joined it.lines.done) line it.lines.consumed found.consumed);
         short = short-push it.lines.done line it.lines.short found.short;
         texts =
             rw (after, ← it.world, ← it.moment, ← does.answer)
-            (appends-append was.written written now_written (run it.lines.opening it.lines.done).written text it.lines.texts writes_text);
+            (appends-append was.written written now_written (run opening it.lines.done).written text it.lines.texts writes_text);
       }
 
-      counts_on : Counts was (outside_at J now_left now_reads now_written now_writes new.hub.journal.disk.now) 0
+      counts_on : Counts was (There now_written now_writes) 0
       counts_on = record { reading = same ∙ it.counts.reading; disk = passed ∙ it.counts.disk; writing = wrote ∙ it.counts.writing }
 
       -- behind a last line without a line feed nothing is left
-      pub last_answered : is_ended line ≡ false → LinesEnd J was (outside_at J now_left now_reads now_written now_writes new.hub.journal.disk.now) first new.hub.journal.disk.now Finished
+      pub last_answered : is_ended line ≡ false → LinesEnd J was (There now_written now_writes) first now_disk Finished
       unfolding pushed ran
       last_answered open_line =
           let end = found.ended open_line in
-          ends was first new now_left now_written now_reads now_writes now_left Finished does.holds told
-          (ran was first new now_left now_written now_reads now_writes now_left pushed history does.holds images_new [] (consumes-nothing now_left) (omega arith), (end, end))
-          counts_on refl
+          ends was first new now_left now_written now_left now_reads now_writes Finished does.holds told
+          (ran was first new now_left now_written now_left now_reads now_writes pushed grows does.holds images_new [] (consumes-nothing now_left)
+          (omega arith), (end, end)) counts_on refl
 
-      pub next_line : is_ended line ≡ true → Running was (outside_at J now_left now_reads now_written now_writes new.hub.journal.disk.now) first new
+      pub next_line : is_ended line ≡ true → Running was (There now_written now_writes) first new
       unfolding pushed
       next_line ended = record {
         lines = pushed;
         feeds =
-            omega (arith, ap line_feeds (joined-push it.lines.done line), line_feeds-append (joined it.lines.done) line, it.feeds, found.feeds ended,
-            length-append it.lines.done (line ∷ []));
+            omega (arith, ap line_feeds (joined-push it.lines.done line), line_feeds-append (joined it.lines.done) line, it.feeds,
+            found.feeds ended, length-append it.lines.done (line ∷ []));
         world = rw (after, ← it.world, ← it.moment) does.world;
         moment = rw (after, ← it.world, ← it.moment) does.moment;
-        history = history;
+        history = grows;
         whole = does.whole;
         holds = does.holds;
         told = told;

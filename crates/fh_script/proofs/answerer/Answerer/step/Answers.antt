@@ -31,43 +31,20 @@ module _ {D : Type 0} {J : Ghosts D} (old new : Answerer D J) (command : Command
       × IfErr told (HasNoAnswer old new (made_in old command).entries) × CountsAnswer (faults_of old.hub) (faults_of new.hub) told
 
   module _ (holds : new.hub.journal.torn ≡ false → HoldsIn new.hub) where
-    -- a step that was made
-    made_so : (reply : Reply) → answer made ≡ Ok reply → world_of new.hub.state ≡ world_after (world_of old.hub.state) made
+    -- a step that has an answer
+    answered : (given : Result Reply Rule) → answer made ≡ given → world_of new.hub.state ≡ world_after (world_of old.hub.state) made
         → new.hub.state.history ≡ old.hub.state.history ++ noted (world_of old.hub.state) command old.now → new.hub.journal.torn ≡ false
-        → faults_of new.hub ≡ faults_of old.hub → (told : Result (String Global) AnswerFault) → IsText told (text_of_answer (Ok reply)) → Comes told
-    made_so reply answered world history still passed (Ok text) is = (
-      record {
-        answer = rw answered is;
-        world = world;
-        moment = same_moment;
-        history = history;
-        whole = still;
-        holds = holds still;
-      },
+        → faults_of new.hub ≡ faults_of old.hub
+        → (new.hub.journal.disk.now ≡ old.hub.journal.disk.now) × (new.hub.state.history ≡ old.hub.state.history)
+        ⊎ (new.hub.state.history ≡ old.hub.state.history ++ noted (world_of old.hub.state) command old.now)
+        → (told : Result (String Global) AnswerFault) → IsText told (text_of_answer given) → Comes told
+    answered given gives world history still passed made_so (Ok text) is = (
+      record { answer = rw gives is; world = world; moment = same_moment; history = history; whole = still; holds = holds still },
       tt,
       passed,
     )
-    made_so reply answered world history still passed (Err answers.NoMemory) is = (tt, record { holds = holds still; made = inr history }, passed)
-    made_so reply answered world history still passed (Err answers.DiskFault) is = absurd (cc)
-
-    -- a step that a rule refused
-    refused_so : (rule : Rule) → made ≡ Refused rule → IsUnchanged old.hub.state new.hub.state → new.hub.journal.disk.now ≡ old.hub.journal.disk.now
-        → new.hub.journal.torn ≡ old.hub.journal.torn → (told : Result (String Global) AnswerFault) → IsText told (text_of_answer (Err rule)) → Comes told
-    refused_so rule refused same disk torn (Ok text) is = (
-      record {
-        answer = rw refused is;
-        world = rw refused same.world;
-        moment = same_moment;
-        history = rw refused (same.history ∙ sym (append-nil old.hub.state.history));
-        whole = torn ∙ whole;
-        holds = holds (torn ∙ whole);
-      },
-      tt,
-      ap J.disk_faults disk,
-    )
-    refused_so rule refused same disk torn (Err answers.NoMemory) is =
-        (tt, record { holds = holds (torn ∙ whole); made = inl (disk, same.history) }, ap J.disk_faults disk)
-    refused_so rule refused same disk torn (Err answers.DiskFault) is = absurd (cc)
+    answered given gives world history still passed made_so (Err answers.NoMemory) is = (tt, record { holds = holds still; made = made_so }, passed)
+    answered given gives world history still passed made_so (Err answers.DiskFault) is = absurd (cc)
 
     -- a step, by what the hub answered
     comes : (stepped : Result Reply StepFault) (told : Result (String Global) AnswerFault) → Answers stepped made (faults_of old.hub) (faults_of new.hub)
@@ -80,10 +57,12 @@ module _ {D : Type 0} {J : Ghosts D} (old new : Answerer D J) (command : Command
         → (is_recorded made ≡ true → new.hub.state.history ≡ old.hub.state.history
         → IfSome (J.told new.hub.journal.disk.now) (StandsEither old.hub.state.history (made_in old command).entries))
         → Comes told
-    comes (Ok reply) told answered is world history same untouched memory still passed failed = made_so reply answered world history (still whole) passed told is
-    comes (Err (OfRule rule)) told answered is world history same untouched memory still passed failed =
-        let quiet = untouched (ap is_recorded answered) in
-        refused_so rule answered same quiet.0 quiet.1 told is
+    comes (Ok reply) told gives is world history same untouched memory still passed failed =
+        answered (Ok reply) gives world history (still whole) passed (inr history) told is
+    comes (Err (OfRule rule)) told refused is world history same untouched memory still passed failed =
+        let quiet = untouched (ap is_recorded refused) in
+        answered (Err rule) (ap answer refused) (rw refused same.world) (rw refused (same.history ∙ sym (append-nil old.hub.state.history)))
+        (quiet.1 ∙ whole) (ap J.disk_faults quiet.0) (inl (quiet.0, same.history)) told is
     comes (Err NoMemory) told answered is world history same untouched memory still passed failed =
         let quiet = memory refl in
         let torn : new.hub.journal.torn ≡ false = quiet.1 ∙ whole in
