@@ -11,63 +11,51 @@ use Rattle.fh_script.specs.Answerer.{StandsEither}
 use Rattle.fh_script.specs.Outside.{crash_of}
 use Rattle.fh_script.specs.Script.{StandsForPart}
 
-part_grows : (opening history entries : List Entry) (c : List ℕ) → StandsForPart opening history c → StandsForPart opening (history ++ entries) c
-part_grows opening history entries c it = record {
-  front = it.front;
-  rest = it.rest ++ entries;
-  whole =
-      ap (λ (h : List Entry). h ++ entries) it.whole ∙ append_assoc opening (it.front ++ it.rest) entries
-      ∙ ap (λ (h : List Entry). opening ++ h) (append_assoc it.front it.rest entries);
-  stands = it.stands;
-}
-
--- a history with entries behind the opening one is a first part of itself
-whole_part : (opening behind : List Entry) (c : List ℕ) → StandsForHistory (opening ++ behind) c → StandsForPart opening (opening ++ behind) c
-whole_part opening behind c stands = record {
-  front = behind;
+part_of_either : (opening behind entries : List Entry) (c : List ℕ) → StandsEither (opening ++ behind) entries c
+    → StandsForPart opening (behind ++ entries) c
+part_of_either opening behind entries c (inl before) = record { front = behind; rest = entries; whole = refl; stands = before }
+part_of_either opening behind entries c (inr after) = record {
+  front = behind ++ entries;
   rest = [];
-  whole = ap (λ (h : List Entry). opening ++ h) (sym (append-nil behind));
-  stands = stands;
+  whole = sym (append-nil (behind ++ entries));
+  stands = subst (λ (h : List Entry). StandsForHistory h c) (append_assoc opening behind entries) after;
 }
-
-part_of_either : (opening history behind entries : List Entry) (c : List ℕ) → history ≡ opening ++ behind → StandsEither history entries c
-    → StandsForPart opening (history ++ entries) c
-part_of_either opening history behind entries c grows (inl before) =
-    part_grows opening history entries c
-    (subst (λ (h : List Entry). StandsForPart opening h c) (sym grows) (whole_part opening behind c (subst (λ (h : List Entry). StandsForHistory h c) grows before)))
-part_of_either opening history behind entries c grows (inr after) =
-    let longer : history ++ entries ≡ opening ++ (behind ++ entries) = ap (λ (h : List Entry). h ++ entries) grows ∙ append_assoc opening behind entries in
-    subst (λ (h : List Entry). StandsForPart opening h c) (sym longer)
-    (whole_part opening (behind ++ entries) c (subst (λ (h : List Entry). StandsForHistory h c) longer after))
 
 module _ {D : Type 0} (J : Ghosts D) (first : D) where
   -- one line more
-  pub more_images : (mid new : D) (opening history behind entries : List Entry) → history ≡ opening ++ behind → StaysTold (J.told first) (J.told mid)
-      → crash_of J first mid (StandsForPart opening history)
-      → IfSome (J.told mid) (λ _. LeavesOnly J.moment J.left_since mid new (StandsEither history entries))
-      → crash_of J first new (StandsForPart opening (history ++ entries))
-  more_images mid new opening history behind entries grows stays before line =
+  pub more_images : (mid new : D) (opening behind entries : List Entry) → StaysTold (J.told first) (J.told mid)
+      → crash_of J first mid (StandsForPart opening behind)
+      → IfSome (J.told mid) (λ _. LeavesOnly J.moment J.left_since mid new (StandsEither (opening ++ behind) entries))
+      → crash_of J first new (StandsForPart opening (behind ++ entries))
+  more_images mid new opening behind entries stays before line =
       where_both (J.told first) (J.told mid) _ _ _ stays before line
-      (λ one two. joins J.moment J.left_since first mid new (λ c. J.may_leave first c ⊎ StandsForPart opening history c) (StandsEither history entries)
-      (λ c. J.may_leave first c ⊎ StandsForPart opening (history ++ entries) c) one two
-      (λ c was. ⊎_elim (λ a. inl a) (λ b. inr (part_grows opening history entries c b)) was)
-      (λ c now. inr (part_of_either opening history behind entries c grows now)))
+      (λ one two. joins J.moment J.left_since first mid new (λ c. J.may_leave first c ⊎ StandsForPart opening behind c)
+      (StandsEither (opening ++ behind) entries) (λ c. J.may_leave first c ⊎ StandsForPart opening (behind ++ entries) c) one two
+      (λ c was. ⊎_elim (λ a. inl a) (λ b. inr (part_grows c b)) was) (λ c now. inr (part_of_either opening behind entries c now)))
+    where
+      part_grows : (c : List ℕ) → StandsForPart opening behind c → StandsForPart opening (behind ++ entries) c
+      part_grows c it = record {
+        front = it.front;
+        rest = it.rest ++ entries;
+        whole = ap (λ (h : List Entry). h ++ entries) it.whole ∙ append_assoc it.front it.rest entries;
+        stands = it.stands;
+      }
 
   -- behind a mount
   pub mounted_images : (mid : D) (opening : List Entry)
       → IfSome (J.told first) (λ file. StandsForHistory opening file → LeavesOnly J.moment J.left_since first mid (λ c. J.may_leave first c ⊎ StandsForHistory opening c))
-      → IfSome (J.told first) (StandsForHistory opening) → crash_of J first mid (StandsForPart opening opening)
+      → IfSome (J.told first) (StandsForHistory opening) → crash_of J first mid (StandsForPart opening [])
   mounted_images mid opening = of_told (J.told first)
     where
       of_told : (bytes : Option (List ℕ))
           → IfSome bytes (λ file. StandsForHistory opening file → LeavesOnly J.moment J.left_since first mid (λ c. J.may_leave first c ⊎ StandsForHistory opening c))
           → IfSome bytes (StandsForHistory opening)
-          → IfSome bytes (λ _. LeavesOnly J.moment J.left_since first mid (λ c. J.may_leave first c ⊎ StandsForPart opening opening c))
+          → IfSome bytes (λ _. LeavesOnly J.moment J.left_since first mid (λ c. J.may_leave first c ⊎ StandsForPart opening [] c))
       of_told None leaves stood = tt
       of_told (Some file) leaves stood =
           widens J.moment J.left_since first mid _ _ (leaves stood)
           (λ c left. ⊎_elim (λ a. inl a)
-          (λ b. inr (record { front = []; rest = []; whole = sym (append-nil opening); stands = subst (λ (h : List Entry). StandsForHistory h c) (sym (append-nil opening)) b }))
+          (λ b. inr (record { front = []; rest = []; whole = refl; stands = rw append-nil b }))
           left)
 
   -- a mount that failed

@@ -47,7 +47,7 @@ module _ {D : Type 0} {J : Ghosts D} (first disk : D) (answerer : Answerer D J) 
     whole = whole;
     holds = rw (disk_is, gate_is, state_is) keeps;
     told = rw disk_is told;
-    images = rw (disk_is, state_is) (mounted_images J first disk state.history leaves stood);
+    images = rw disk_is (mounted_images J first disk state.history leaves stood);
     counts = record { reading = refl; disk = rw disk_is passed; writing = refl };
   }
     where

@@ -101,7 +101,7 @@ module _ {D : Type 0} {J : Ghosts D} (was : Outside) (first : D) (answerer : Ans
 
     -- no line stands behind those that are answered
     ran : (lines : Answered was left written) → history ≡ lines.opening ++ (run lines.opening lines.done).entries
-        → HoldsIn answerer.hub → Leaves (StandsForPart lines.opening history)
+        → HoldsIn answerer.hub → Leaves (StandsForPart lines.opening (run lines.opening lines.done).entries)
         → (taken : List ℕ) → Consumes left now_left taken → length taken ≤ 140001 → Ran was Now Leaves None None
     ran lines grows holds images taken consumed few = record {
       left = left;
@@ -111,7 +111,7 @@ module _ {D : Type 0} {J : Ghosts D} (was : Outside) (first : D) (answerer : Ans
       few = few;
       only = tt;
       stands = stands_as _ grows holds;
-      images = subst (λ (h : List Entry). Leaves (StandsForPart lines.opening h)) grows images;
+      images = images;
     }
 
     -- the lines end where the journal stands for the hub's history
@@ -202,10 +202,11 @@ module _ {D : Type 0} {J : Ghosts D} (was : Outside) (first : D) (old new : Answ
       (ap (λ (h : List Entry). h ++ (done_in old line).entries) it.history
       ∙ append_assoc opening (run opening it.lines.done).entries (done_in old line).entries)
 
-  images : crash_of J first now_disk (StandsForPart opening longer_history)
+  images : crash_of J first now_disk (StandsForPart opening (run opening (it.lines.done ++ line ∷ [])).entries)
   images =
-      more_images J first old.hub.journal.disk.now now_disk opening old.hub.state.history
-      (run opening it.lines.done).entries (done_in old line).entries it.history it.told it.images moves
+      rw (after, ← it.world, ← it.moment)
+      (more_images J first old.hub.journal.disk.now now_disk opening (run opening it.lines.done).entries (done_in old line).entries
+      it.told it.images (rw it.history at moves))
 
   -- the line stands behind those that are answered
   ran_line : (now_writes : ℕ) (made : Option (List ℕ)) → Stands (opening ++ (run opening (with_line it.lines.done made)).entries)
@@ -218,14 +219,14 @@ module _ {D : Type 0} {J : Ghosts D} (was : Outside) (first : D) (old new : Answ
     few = found.stored;
     only = (refl, found.first);
     stands = stands_now;
-    images = subst (λ (h : List Entry). crash_of J first now_disk (StandsForPart opening h)) longer images;
+    images = images;
   }
 
   lacks_memory : HoldsIn new.hub → (now_disk ≡ old.hub.journal.disk.now) × (new.hub.state.history ≡ old.hub.state.history)
       ⊎ (new.hub.state.history ≡ longer_history) → HasPlainReason was (There written writes) (crash_of J first now_disk) NoMemory
   lacks_memory holds (inl before) =
       inl (ran was first new left written now_left now_reads writes it.lines (before.1 ∙ it.history) holds
-      (rw (before.0, before.1) it.images) line found.consumed found.stored)
+      (rw before.0 it.images) line found.consumed found.stored)
   lacks_memory holds (inr grown) = inr (line, ran_line writes (Some line) (stands_as was first new _ (grown ∙ longer) holds))
 
   pub answer_stops : (fault : AnswerFault) → HasNoAnswer old new (done_in old line).entries fault
@@ -257,9 +258,6 @@ module _ {D : Type 0} {J : Ghosts D} (was : Outside) (first : D) (old new : Answ
       (now_written : Option (List ℕ)) (now_writes : ℕ) where
     grows : new.hub.state.history ≡ opening ++ (run opening (it.lines.done ++ line ∷ [])).entries
     grows = does.history ∙ longer
-
-    images_new : crash_of J first now_disk (StandsForPart opening new.hub.state.history)
-    images_new = rw does.history images
 
     -- its answer was written in part
     pub writing_stops : (size : ℕ) → size < length text → Appends written now_written (take size text) → Rose writes now_writes
@@ -307,7 +305,7 @@ module _ {D : Type 0} {J : Ghosts D} (was : Outside) (first : D) (old new : Answ
       last_answered open_line =
           let end = found.ended open_line in
           ends was first new now_left now_written now_left now_reads now_writes Finished does.holds told
-          (ran was first new now_left now_written now_left now_reads now_writes pushed grows does.holds images_new [] (consumes-nothing now_left)
+          (ran was first new now_left now_written now_left now_reads now_writes pushed grows does.holds images [] (consumes-nothing now_left)
           (omega arith), (end, end)) counts_on refl
 
       pub next_line : is_ended line ≡ true → Running was (There now_written now_writes) first new
@@ -323,6 +321,6 @@ module _ {D : Type 0} {J : Ghosts D} (was : Outside) (first : D) (old new : Answ
         whole = does.whole;
         holds = does.holds;
         told = told;
-        images = images_new;
+        images = images;
         counts = counts_on;
       }

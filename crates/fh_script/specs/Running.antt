@@ -25,7 +25,7 @@ pub record Running {D : Type 0} {J : Ghosts D} (was now : Outside) (first : D) (
   pub whole : answerer.hub.journal.torn ≡ false
   pub holds : HoldsIn answerer.hub
   pub told : StaysTold (J.told first) (J.told answerer.hub.journal.disk.now)
-  pub images : crash_of J first answerer.hub.journal.disk.now (StandsForPart lines.opening answerer.hub.state.history)
+  pub images : crash_of J first answerer.hub.journal.disk.now (StandsForPart lines.opening (run lines.opening lines.done).entries)
   pub counts : Counts was now 0
 
 -- the statuses with which lines end

@@ -39,11 +39,11 @@ is_short_line line = nat_le (line_length line) longest_line
 abbrev pub joined : List (List ℕ) → List ℕ
 joined lines = flat_map (λ line. line) lines
 
--- the file stands for a first part of this history, at least for the one that it begins with
-pub record StandsForPart (opening history : List Entry) (file : List ℕ) : Type 0 where
+-- the file stands for this history with a first part of these entries behind it
+pub record StandsForPart (opening entries : List Entry) (file : List ℕ) : Type 0 where
   pub front : List Entry
   pub rest : List Entry
-  pub whole : history ≡ opening ++ (front ++ rest)
+  pub whole : entries ≡ front ++ rest
   pub stands : StandsForHistory (opening ++ front) file
 
 -- The journal stood for a legal history. These lines were read, and have left the rest; none is too long; and their
@@ -79,7 +79,7 @@ pub record Ran (was now : Outside) (leaves : Imaging) (next done : Option (List 
   pub few : length taken ≤ longest_line + 1
   pub only : TakesLine left now.left taken next
   pub stands : IfSome now.told (StandsForHistory (lines.opening ++ (run lines.opening (with_line lines.done done)).entries))
-  pub images : leaves (StandsForPart lines.opening (lines.opening ++ (run lines.opening (with_line lines.done next)).entries))
+  pub images : leaves (StandsForPart lines.opening (run lines.opening (with_line lines.done next)).entries)
 
 -- the next line was done, and its answer was written in part alone
 pub record CutOff (was now : Outside) (leaves : Imaging) : Type 0 where

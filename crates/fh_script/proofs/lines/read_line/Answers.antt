@@ -1,7 +1,8 @@
 use Rattle.std.proofs.Common.{◌≡◌, ◌<◌, ◌++◌, List, ℕ, ◌==◌, Bool, false, Option, rules, arith, ap, ◌∙◌, Some, None, sym}
 use Rattle.std.proofs.lemmas.Bool.Decides.{nat_tests}
+use Rattle.std.proofs.lemmas.Grind.{common_steps}
 use Rattle.std.specs.Io.KnownBytes.{Consumes, Keeps}
-use Rattle.fh_script.proofs.LineReading.{found_end, found_ended, found_last, line_feeds-plain, starts_longer, took_one}
+use Rattle.fh_script.proofs.LineReading.{consumes-append, found_end, found_ended, found_last, plain-pushed, starts_longer, took_one}
 use Rattle.fh_script.proofs.lines.read_line.Goals as goal
 
 consumes_kept : (was mid now : Option (List ℕ)) (line : List ℕ) → Consumes was mid line → Keeps mid now → Consumes was now line
@@ -51,5 +52,18 @@ returns-in-Err-clause-reason g c =
         consumed = consumes_kept _ _ _ c.loop-byte.line.items l.read c.in-Err.ensures.failed;
         few = omega (arith, l.short);
       };
-      part = line_feeds-plain c.loop-byte.line.items l.plain;
+      part = l.plain;
+    }
+
+pub loop-byte-preserved : goal.loop-byte-preserved
+loop-byte-preserved g c =
+    let l = c.loop-byte.invariant in
+    record {
+      read =
+          rw c.in-Ok-push.ensures.items
+          (consumes-append _ _ _ c.loop-byte.line.items _ l.read (rw c.in-Some.is at c.in-Ok.ensures.byte));
+      plain = plain-pushed c.loop-byte.line.items _ _ l.plain c.if-byte-eq-LINE_FEED.false c.in-Ok-push.ensures.items;
+      short = search rules;
+      most = grind (arith, common_steps);
+      count = search rules;
     }
