@@ -23,7 +23,7 @@ use Rattle.fh_script.specs.declared.faults.LineFault.{LineFault}
 use Rattle.fh_script.specs.declared.faults.LineFault.TheVariants as faults
 use Rattle.fh_script.specs.Answerer.{CountsAnswer, HasDone, HasNoAnswer, HoldsIn, LacksMemory, StandsEither, StaysToldIn, done_in}
 use Rattle.fh_script.specs.Ends.{end_of_answer, end_of_read}
-use Rattle.fh_script.specs.Lines.{CountsRead, FindsEnd, FindsLine, HasLineReason, IsFirstLine, is_ended, line_feeds, line_length, lines}
+use Rattle.fh_script.specs.Lines.{CountsRead, FindsEnd, FindsLine, HasLineReason, IsFirstLine, Took, is_ended, line_feeds, line_length, lines}
 use Rattle.fh_script.specs.Machine.{after_line, answer_line, opening_in, printed, run}
 use Rattle.fh_script.specs.Outside.{Counts, Imaging, Outside, crash_of}
 use Rattle.fh_script.specs.Running.{LinesEnd, Running, is_of_lines}
@@ -102,13 +102,11 @@ module _ {D : Type 0} {J : Ghosts D} (was : Outside) (first : D) (answerer : Ans
     -- no line stands behind those that are answered
     ran : (lines : Answered was left written) → history ≡ lines.opening ++ (run lines.opening lines.done).entries
         → HoldsIn answerer.hub → Leaves (StandsForPart lines.opening (run lines.opening lines.done).entries)
-        → (taken : List ℕ) → Consumes left now_left taken → length taken ≤ 140001 → Ran was Now Leaves None None
-    ran lines grows holds images taken consumed few = record {
+        → Took left now_left → Ran was Now Leaves None None
+    ran lines grows holds images took = record {
       left = left;
       lines = lines;
-      taken = taken;
-      consumed = consumed;
-      few = few;
+      took = took;
       only = tt;
       stands = stands_as _ grows holds;
       images = images;
@@ -136,8 +134,7 @@ module _ {D : Type 0} {J : Ghosts D} (was : Outside) (first : D) (answerer : Ans
   abbrev Ends : PlainEnd → Type 0
   Ends end = LinesEnd J was Here first answerer.hub.journal.disk.now end
 
-  ran_here : (taken : List ℕ) → Consumes left now_left taken → length taken ≤ 140001
-      → Ran was Here (crash_of J first answerer.hub.journal.disk.now) None None
+  ran_here : Took left now_left → Ran was Here (crash_of J first answerer.hub.journal.disk.now) None None
   ran_here = ran was first answerer left written now_left now_reads writes it.lines it.history it.holds it.images
 
   counts_here : (code : ℕ) → MatchBool (code == 5) (Rose reads now_reads) (now_reads ≡ reads) → (code == 6) ≡ false
@@ -155,18 +152,19 @@ module _ {D : Type 0} {J : Ghosts D} (was : Outside) (first : D) (answerer : Ans
   pub finished : FindsEnd left now_left → now_reads ≡ reads → Ends Finished
   unfolding ran_here ran
   finished found same =
-      ends_here Finished (ran_here [] found.consumed (omega arith), (found.was_ended, found.ended)) (counts_here 0 same refl refl) refl
+      let took : Took left now_left = record { taken = []; consumed = found.consumed; few = omega arith } in
+      ends_here Finished (ran_here took, (found.was_ended, found.ended)) (counts_here 0 same refl refl) refl
 
   pub reading_stops : (fault : LineFault) → HasLineReason left now_left fault → CountsRead {T = Bool} reads now_reads (Err fault)
       → Ends (end_of_read fault)
   unfolding ran_here ran
   reading_stops faults.ReadFault reason counts =
-      ends_here ReadFault (ran_here reason.took.taken reason.took.consumed reason.took.few,
+      ends_here ReadFault (ran_here reason.took,
       omega (arith, line_feeds-append (joined it.lines.done) reason.took.taken, it.feeds, reason.part)) (counts_here 5 counts refl refl) refl
   reading_stops faults.TooLong reason counts =
-      ends_here LongLine (ran_here reason.1.taken reason.1.consumed reason.1.few, reason.0) (counts_here 8 counts refl refl) refl
+      ends_here LongLine (ran_here reason.1, reason.0) (counts_here 8 counts refl refl) refl
   reading_stops faults.NoMemory reason counts =
-      ends_here NoMemory (inl (ran_here reason.taken reason.consumed reason.few)) (counts_here 9 counts refl refl) refl
+      ends_here NoMemory (inl (ran_here reason)) (counts_here 9 counts refl refl) refl
 
 -- Where a line was read, and something was done of it.
 module _ {D : Type 0} {J : Ghosts D} (was : Outside) (first : D) (old new : Answerer D J)
@@ -208,15 +206,17 @@ module _ {D : Type 0} {J : Ghosts D} (was : Outside) (first : D) (old new : Answ
       (more_images J first old.hub.journal.disk.now now_disk opening (run opening it.lines.done).entries (done_in old line).entries
       it.told it.images (rw it.history at moves))
 
+  took_line : Took left now_left
+  took_line = record { taken = line; consumed = found.consumed; few = found.stored }
+
   -- the line stands behind those that are answered
   ran_line : (now_writes : ℕ) (made : Option (List ℕ)) → Stands (opening ++ (run opening (with_line it.lines.done made)).entries)
       → Ran was (There written now_writes) (crash_of J first now_disk) (Some line) made
+  unfolding took_line
   ran_line now_writes made stands_now = record {
     left = left;
     lines = it.lines;
-    taken = line;
-    consumed = found.consumed;
-    few = found.stored;
+    took = took_line;
     only = (refl, found.first);
     stands = stands_now;
     images = images;
@@ -226,7 +226,7 @@ module _ {D : Type 0} {J : Ghosts D} (was : Outside) (first : D) (old new : Answ
       ⊎ (new.hub.state.history ≡ longer_history) → HasPlainReason was (There written writes) (crash_of J first now_disk) NoMemory
   lacks_memory holds (inl before) =
       inl (ran was first new left written now_left now_reads writes it.lines (before.1 ∙ it.history) holds
-      (rw before.0 it.images) line found.consumed found.stored)
+      (rw before.0 it.images) took_line)
   lacks_memory holds (inr grown) = inr (line, ran_line writes (Some line) (stands_as was first new _ (grown ∙ longer) holds))
 
   pub answer_stops : (fault : AnswerFault) → HasNoAnswer old new (done_in old line).entries fault
@@ -262,7 +262,7 @@ module _ {D : Type 0} {J : Ghosts D} (was : Outside) (first : D) (old new : Answ
     -- its answer was written in part
     pub writing_stops : (size : ℕ) → size < length text → Appends written now_written (take size text) → Rose writes now_writes
         → LinesEnd J was (There now_written now_writes) first now_disk WriteFault
-    unfolding answer_line ran_line
+    unfolding answer_line ran_line took_line
     writing_stops size part cut rose =
         ends was first new left now_written now_left now_reads now_writes WriteFault does.holds told
         (record {
@@ -304,9 +304,9 @@ module _ {D : Type 0} {J : Ghosts D} (was : Outside) (first : D) (old new : Answ
       unfolding pushed ran
       last_answered open_line =
           let end = found.ended open_line in
+          let nothing : Took now_left now_left = record { taken = []; consumed = consumes-nothing now_left; few = omega arith } in
           ends was first new now_left now_written now_left now_reads now_writes Finished does.holds told
-          (ran was first new now_left now_written now_left now_reads now_writes pushed grows does.holds images [] (consumes-nothing now_left)
-          (omega arith), (end, end)) counts_on refl
+          (ran was first new now_left now_written now_left now_reads now_writes pushed grows does.holds images nothing, (end, end)) counts_on refl
 
       pub next_line : is_ended line ≡ true → Running was (There now_written now_writes) first new
       unfolding pushed

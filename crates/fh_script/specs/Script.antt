@@ -16,7 +16,7 @@ use Rattle.fh_hub.specs.Hub.{StandsForHistory}
 use Rattle.fh_hub.specs.Mounting.{MountsHistory}
 use Rattle.fh_hub.specs.Replay.{Entry, IsLegal}
 use Rattle.fh_hub.specs.declared.faults.HubFault.{HubFault}
-use Rattle.fh_script.specs.Lines.{IsFirstLine, StartsLong, lines, line_length, line_feeds}
+use Rattle.fh_script.specs.Lines.{IsFirstLine, StartsLong, Took, lines, line_length, line_feeds}
 use Rattle.fh_script.specs.Machine.{answer_line, printed, run}
 use Rattle.fh_script.specs.Outside.{Counts, Imaging, Outside}
 use Rattle.fh_script.specs.Ends.{code_of, last_line}
@@ -74,10 +74,8 @@ TakesLine left now taken (Some line) = (taken ≡ line) × IsFirstLine left now 
 pub record Ran (was now : Outside) (leaves : Imaging) (next done : Option (List ℕ)) : Type 0 where
   pub left : Option (List ℕ)
   pub lines : Answered was left now.written
-  pub taken : List ℕ
-  pub consumed : Consumes left now.left taken
-  pub few : length taken ≤ longest_line + 1
-  pub only : TakesLine left now.left taken next
+  pub took : Took left now.left
+  pub only : TakesLine left now.left took.taken next
   pub stands : IfSome now.told (StandsForHistory (lines.opening ++ (run lines.opening (with_line lines.done done)).entries))
   pub images : leaves (StandsForPart lines.opening (run lines.opening (with_line lines.done next)).entries)
 
@@ -99,7 +97,7 @@ abbrev pub HasPlainReason : Outside → Outside → Imaging → PlainEnd → Typ
 HasPlainReason was now leaves Finished = (it : Ran was now leaves None None) × (IsAtEnd it.left × IsAtEnd now.left)
 HasPlainReason was now leaves Usage = now ≡ was
 HasPlainReason was now leaves ReadFault =
-    (it : Ran was now leaves None None) × (line_feeds (joined it.lines.done ++ it.taken) ≡ length it.lines.done)
+    (it : Ran was now leaves None None) × (line_feeds (joined it.lines.done ++ it.took.taken) ≡ length it.lines.done)
 HasPlainReason was now leaves DiskFault =
     (line : List ℕ) × (Ran was now leaves (Some line) None ⊎ Ran was now leaves (Some line) (Some line))
 HasPlainReason was now leaves WriteFault = CutOff was now leaves
