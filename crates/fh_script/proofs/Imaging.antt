@@ -13,7 +13,8 @@ use Rattle.fh_script.specs.Script.{StandsForPart}
 
 part_of_either : (opening behind entries : List Entry) (c : List ℕ) → StandsEither (opening ++ behind) entries c
     → StandsForPart opening (behind ++ entries) c
-part_of_either opening behind entries c (inl before) = record { front = behind; rest = entries; whole = refl; stands = before }
+part_of_either opening behind entries c (inl before) =
+    record { front = behind; rest = entries; whole = refl; stands = before }
 part_of_either opening behind entries c (inr after) = record {
   front = behind ++ entries;
   rest = [];
@@ -30,8 +31,10 @@ module _ {D : Type 0} (J : Ghosts D) (first : D) where
   more_images mid new opening behind entries stays before line =
       where_both (J.told first) (J.told mid) _ _ _ stays before line
       (λ one two. joins J.moment J.left_since first mid new (λ c. J.may_leave first c ⊎ StandsForPart opening behind c)
-      (StandsEither (opening ++ behind) entries) (λ c. J.may_leave first c ⊎ StandsForPart opening (behind ++ entries) c) one two
-      (λ c was. ⊎_elim (λ a. inl a) (λ b. inr (part_grows c b)) was) (λ c now. inr (part_of_either opening behind entries c now)))
+      (StandsEither (opening ++ behind) entries)
+      (λ c. J.may_leave first c ⊎ StandsForPart opening (behind ++ entries) c) one two
+      (λ c was. ⊎_elim (λ a. inl a) (λ b. inr (part_grows c b)) was)
+      (λ c now. inr (part_of_either opening behind entries c now)))
     where
       part_grows : (c : List ℕ) → StandsForPart opening behind c → StandsForPart opening (behind ++ entries) c
       part_grows c it = record {
@@ -43,14 +46,18 @@ module _ {D : Type 0} (J : Ghosts D) (first : D) where
 
   -- behind a mount
   pub mounted_images : (mid : D) (opening : List Entry)
-      → IfSome (J.told first) (λ file. StandsForHistory opening file → LeavesOnly J.moment J.left_since first mid (λ c. J.may_leave first c ⊎ StandsForHistory opening c))
+      → IfSome (J.told first)
+      (λ file. StandsForHistory opening file
+      → LeavesOnly J.moment J.left_since first mid (λ c. J.may_leave first c ⊎ StandsForHistory opening c))
       → IfSome (J.told first) (StandsForHistory opening) → crash_of J first mid (StandsForPart opening [])
   mounted_images mid opening = of_told (J.told first)
     where
       of_told : (bytes : Option (List ℕ))
-          → IfSome bytes (λ file. StandsForHistory opening file → LeavesOnly J.moment J.left_since first mid (λ c. J.may_leave first c ⊎ StandsForHistory opening c))
+          → IfSome bytes (λ file. StandsForHistory opening file
+          → LeavesOnly J.moment J.left_since first mid (λ c. J.may_leave first c ⊎ StandsForHistory opening c))
           → IfSome bytes (StandsForHistory opening)
-          → IfSome bytes (λ _. LeavesOnly J.moment J.left_since first mid (λ c. J.may_leave first c ⊎ StandsForPart opening [] c))
+          → IfSome bytes (λ _. LeavesOnly J.moment J.left_since first mid
+          (λ c. J.may_leave first c ⊎ StandsForPart opening [] c))
       of_told None leaves stood = tt
       of_told (Some file) leaves stood =
           widens J.moment J.left_since first mid _ _ (leaves stood)
@@ -59,11 +66,16 @@ module _ {D : Type 0} (J : Ghosts D) (first : D) where
           left)
 
   -- a mount that failed
-  pub unmounted_images : (new : D) → IfSome (J.told first) (λ file. LeavesOnly J.moment J.left_since first new (λ c. J.may_leave first c ⊎ IsBeingMade file c))
+  pub unmounted_images : (new : D)
+      → IfSome (J.told first)
+      (λ file. LeavesOnly J.moment J.left_since first new (λ c. J.may_leave first c ⊎ IsBeingMade file c))
       → crash_of J first new (λ c. IfSome (J.told first) (λ file. IsBeingMade file c))
   unmounted_images new = of_told (J.told first)
     where
-      of_told : (bytes : Option (List ℕ)) → IfSome bytes (λ file. LeavesOnly J.moment J.left_since first new (λ c. J.may_leave first c ⊎ IsBeingMade file c))
-          → IfSome bytes (λ _. LeavesOnly J.moment J.left_since first new (λ c. J.may_leave first c ⊎ IfSome bytes (λ file. IsBeingMade file c)))
+      of_told : (bytes : Option (List ℕ))
+          → IfSome bytes (λ file. LeavesOnly J.moment J.left_since first new
+          (λ c. J.may_leave first c ⊎ IsBeingMade file c))
+          → IfSome bytes (λ _. LeavesOnly J.moment J.left_since first new
+          (λ c. J.may_leave first c ⊎ IfSome bytes (λ file. IsBeingMade file c)))
       of_told None leaves = tt
       of_told (Some file) leaves = leaves

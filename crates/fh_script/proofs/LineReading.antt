@@ -17,7 +17,8 @@ line_feeds-append (x ∷ a) b = one_more x a b (line_feeds-append a b)
 plain_parts : (b : ℕ) (line : List ℕ) → line_feeds (b ∷ line) ≡ 0 → (is_line_feed b ≡ false) × (line_feeds line ≡ 0)
 plain_parts b line plain = by_cases (is_line_feed b) plain
   where
-    by_cases : (f : Bool) → (if f then line_feeds line + 1 else line_feeds line) ≡ 0 → (f ≡ false) × (line_feeds line ≡ 0)
+    by_cases : (f : Bool) → (if f then line_feeds line + 1 else line_feeds line) ≡ 0
+        → (f ≡ false) × (line_feeds line ≡ 0)
     by_cases true none = absurd (omega arith)
     by_cases false none = (refl, none)
 
@@ -36,7 +37,8 @@ lines-last b [] plain = rw (plain_parts b [] plain).0 refl
 lines-last b (d ∷ line) plain =
     let parts = plain_parts b (d ∷ line) plain in rw parts.0 (ap (before_lines b) (lines-last d line parts.1))
 
-line_length-plain : (line rest : List ℕ) → line_feeds line ≡ 0 → line_length (line ++ rest) ≡ length line + line_length rest
+line_length-plain : (line rest : List ℕ) → line_feeds line ≡ 0
+    → line_length (line ++ rest) ≡ length line + line_length rest
 line_length-plain [] rest plain = omega arith
 line_length-plain (b ∷ line) rest plain =
     let parts = plain_parts b line plain in rw parts.0 (omega (arith, line_length-plain line rest parts.1))
@@ -58,9 +60,11 @@ first_ended : (was now : Option (List ℕ)) (line : List ℕ) → line_feeds lin
     → IsFirstLine was now (line ++ 10 ∷ [])
 first_ended None now line plain taken = tt
 first_ended (Some a) None line plain taken = absurd taken
-first_ended (Some a) (Some b) line plain taken = ap lines (taken ∙ append_assoc line (10 ∷ []) b) ∙ lines-ended line b plain
+first_ended (Some a) (Some b) line plain taken = ap lines (taken ∙ append_assoc line (10 ∷ []) b)
+    ∙ lines-ended line b plain
 
-first_last : (was now : Option (List ℕ)) (line : List ℕ) → line_feeds line ≡ 0 → 0 < length line → Consumes was now line → IsAtEnd now
+first_last : (was now : Option (List ℕ)) (line : List ℕ) → line_feeds line ≡ 0 → 0 < length line
+    → Consumes was now line → IsAtEnd now
     → IsFirstLine was now line
 first_last None now line plain some taken end = tt
 first_last (Some a) None line plain some taken end = absurd taken
@@ -71,7 +75,8 @@ first_last (Some a) (Some b) (e ∷ line) plain some taken end =
 module _ (was mid now : Option (List ℕ)) (line : List ℕ) (plain : line_feeds line ≡ 0) (read : Consumes was mid line)
     (few : length line ≤ 140000) where
   -- a line feed was read behind the line
-  pub found_ended : (byte : ℕ) (new : List ℕ) → byte ≡ 10 → new ≡ line ++ byte ∷ [] → Consumes mid now (byte ∷ []) → FindsLine was now new
+  pub found_ended : (byte : ℕ) (new : List ℕ) → byte ≡ 10 → new ≡ line ++ byte ∷ [] → Consumes mid now (byte ∷ [])
+      → FindsLine was now new
   found_ended byte new feed is last =
       let taken = consumes-append was mid now line (10 ∷ []) read (rw feed at last) in
       rw (is, feed) (record {
@@ -81,7 +86,8 @@ module _ (was mid now : Option (List ℕ)) (line : List ℕ) (plain : line_feeds
         stored = omega (arith, few, length-append line (10 ∷ []));
         feeds = λ ended. omega (arith, plain, line_feeds-append line (10 ∷ []));
         ended = λ not.
-            let is_so = (ends_is Decides-eqb (line ++ 10 ∷ []) (10 ∷ []) (is_ended (line ++ 10 ∷ [])) refl).1 line refl in absurd cc;
+            let is_so = (ends_is Decides-eqb (line ++ 10 ∷ []) (10 ∷ []) (is_ended (line ++ 10 ∷ [])) refl).1 line
+            refl in absurd cc;
       })
 
   -- the source was at its end behind the line
@@ -115,17 +121,21 @@ found_end (Some a) (Some b) (Some d) [] none one two =
     record { was_ended = one ∙ two.0 ∙ two.1; ended = two.1; consumed = one ∙ two.0 }
 found_end (Some a) (Some b) (Some d) (e ∷ line) none one two = absurd (omega (arith, none))
 
-starts_long : (was now : Option (List ℕ)) (line : List ℕ) → line_feeds line ≡ 0 → Consumes was now line → 140000 < length line → StartsLong was
+starts_long : (was now : Option (List ℕ)) (line : List ℕ) → line_feeds line ≡ 0 → Consumes was now line
+    → 140000 < length line → StartsLong was
 starts_long None now line plain one long = tt
 starts_long (Some a) None line plain one long = absurd one
 starts_long (Some a) (Some b) line plain one long = rw one (omega (arith, long, line_length-plain line b plain))
 
 -- one more byte that is no line feed
-pub starts_longer : (was mid now : Option (List ℕ)) (line new : List ℕ) (b : ℕ) → line_feeds line ≡ 0 → (b ≡ 10 → ⊥) → new ≡ line ++ b ∷ []
+pub starts_longer : (was mid now : Option (List ℕ)) (line new : List ℕ) (b : ℕ) → line_feeds line ≡ 0 → (b ≡ 10 → ⊥)
+    → new ≡ line ++ b ∷ []
     → Consumes was mid line → Consumes mid now (b ∷ []) → 140000 < length new → StartsLong was
 starts_longer was mid now line new b plain other is one two long =
-    starts_long was now (line ++ b ∷ []) (plain-push line b plain other) (consumes-append was mid now line (b ∷ []) one two) (rw is at long)
+    starts_long was now (line ++ b ∷ []) (plain-push line b plain other)
+    (consumes-append was mid now line (b ∷ []) one two) (rw is at long)
 
 -- one more byte that is none keeps the line without one
-pub plain-pushed : (line new : List ℕ) (b : ℕ) → line_feeds line ≡ 0 → (b ≡ 10 → ⊥) → new ≡ line ++ b ∷ [] → line_feeds new ≡ 0
+pub plain-pushed : (line new : List ℕ) (b : ℕ) → line_feeds line ≡ 0 → (b ≡ 10 → ⊥) → new ≡ line ++ b ∷ []
+    → line_feeds new ≡ 0
 plain-pushed line new b plain other is = rw is (plain-push line b plain other)

@@ -43,13 +43,15 @@ consumes-nothing (Some a) = refl
 short-push : (done : List (List ℕ)) (line : List ℕ) → list_all is_short_line done ≡ true → line_length line ≤ 140000
     → list_all is_short_line (done ++ line ∷ []) ≡ true
 short-push done line short fits =
-    list_all-append is_short_line done (line ∷ []) ∙ both_true _ _ short (both_true (is_short_line line) true (le-leb (line_length line) 140000 fits) refl)
+    list_all-append is_short_line done (line ∷ [])
+    ∙ both_true _ _ short (both_true (is_short_line line) true (le-leb (line_length line) 140000 fits) refl)
   where
     both_true : (a b : Bool) → a ≡ true → b ≡ true → (a && b) ≡ true
     both_true true b first second = second
     both_true false b first second = first
 
-reads-push : (was mid now : Option (List ℕ)) (done : List (List ℕ)) (line : List ℕ) → Reads was mid done → IsFirstLine mid now line
+reads-push : (was mid now : Option (List ℕ)) (done : List (List ℕ)) (line : List ℕ) → Reads was mid done
+    → IsFirstLine mid now line
     → Reads was now (done ++ line ∷ [])
 reads-push None mid now done line one two = tt
 reads-push (Some a) None now done line one two = absurd one
@@ -59,13 +61,16 @@ reads-push (Some a) (Some b) (Some d) done line one two =
 
 joined-push : (done : List (List ℕ)) (line : List ℕ) → joined (done ++ line ∷ []) ≡ joined done ++ line
 joined-push [] line = append-nil line
-joined-push (first ∷ done) line = ap (λ (l : List ℕ). first ++ l) (joined-push done line) ∙ sym (append_assoc first (joined done) line)
+joined-push (first ∷ done) line = ap (λ (l : List ℕ). first ++ l) (joined-push done line)
+    ∙ sym (append_assoc first (joined done) line)
 
-run-push : (opening : List Entry) (done : List (List ℕ)) (line : List ℕ) → run opening (done ++ line ∷ []) ≡ after_line (run opening done) line
+run-push : (opening : List Entry) (done : List (List ℕ)) (line : List ℕ)
+    → run opening (done ++ line ∷ []) ≡ after_line (run opening done) line
 run-push opening done line = fold-append after_line (opening_in (replay opening)) done (line ∷ [])
 
 -- told bytes that stand for one of two histories
-one_of_two : (told : Option (List ℕ)) (A B : List ℕ → Type 0) → IfSome told (λ file. A file ⊎ B file) → IfSome told A ⊎ IfSome told B
+one_of_two : (told : Option (List ℕ)) (A B : List ℕ → Type 0) → IfSome told (λ file. A file ⊎ B file)
+    → IfSome told A ⊎ IfSome told B
 one_of_two None A B either = inl tt
 one_of_two (Some file) A B either = either
 
@@ -155,12 +160,16 @@ module _ {D : Type 0} {J : Ghosts D} (was : Outside) (first : D) (answerer : Ans
       let took : Took left now_left = record { taken = []; consumed = found.consumed; few = omega arith } in
       ends_here Finished (ran_here took, (found.was_ended, found.ended)) (counts_here 0 same refl refl) refl
 
-  pub reading_stops : (fault : LineFault) → HasLineReason left now_left fault → CountsRead {T = Bool} reads now_reads (Err fault)
+  pub reading_stops : (fault : LineFault) → HasLineReason left now_left fault
+      → CountsRead {T = Bool} reads now_reads (Err fault)
       → Ends (end_of_read fault)
   unfolding ran_here ran
   reading_stops faults.ReadFault reason counts =
-      ends_here ReadFault (ran_here reason.took,
-      omega (arith, line_feeds-append (joined it.lines.done) reason.took.taken, it.feeds, reason.part)) (counts_here 5 counts refl refl) refl
+      ends_here ReadFault (
+        ran_here reason.took,
+        omega (arith, line_feeds-append (joined it.lines.done) reason.took.taken, it.feeds, reason.part),
+      )
+      (counts_here 5 counts refl refl) refl
   reading_stops faults.TooLong reason counts =
       ends_here LongLine (ran_here reason.1, reason.0) (counts_here 8 counts refl refl) refl
   reading_stops faults.NoMemory reason counts =
@@ -171,7 +180,8 @@ module _ {D : Type 0} {J : Ghosts D} (was : Outside) (first : D) (old new : Answ
     (left written now_left : Option (List ℕ)) (reads writes now_reads : ℕ)
     (it : Running was (outside_at J left reads written writes old.hub.journal.disk.now) first old) (line : List ℕ)
     (found : FindsLine left now_left line) (same : now_reads ≡ reads)
-    (moves : LeavesSince old.hub new.hub (StandsEither old.hub.state.history (done_in old line).entries)) (stays : StaysToldIn old new) where
+    (moves : LeavesSince old.hub new.hub (StandsEither old.hub.state.history (done_in old line).entries))
+    (stays : StaysToldIn old new) where
   abbrev now_disk : D
   now_disk = new.hub.journal.disk.now
 
@@ -203,14 +213,16 @@ module _ {D : Type 0} {J : Ghosts D} (was : Outside) (first : D) (old new : Answ
   images : crash_of J first now_disk (StandsForPart opening (run opening (it.lines.done ++ line ∷ [])).entries)
   images =
       rw (after, ← it.world, ← it.moment)
-      (more_images J first old.hub.journal.disk.now now_disk opening (run opening it.lines.done).entries (done_in old line).entries
+      (more_images J first old.hub.journal.disk.now now_disk opening (run opening it.lines.done).entries
+      (done_in old line).entries
       it.told it.images (rw it.history at moves))
 
   took_line : Took left now_left
   took_line = record { taken = line; consumed = found.consumed; few = found.stored }
 
   -- the line stands behind those that are answered
-  ran_line : (now_writes : ℕ) (made : Option (List ℕ)) → Stands (opening ++ (run opening (with_line it.lines.done made)).entries)
+  ran_line : (now_writes : ℕ) (made : Option (List ℕ))
+      → Stands (opening ++ (run opening (with_line it.lines.done made)).entries)
       → Ran was (There written now_writes) (crash_of J first now_disk) (Some line) made
   unfolding took_line
   ran_line now_writes made stands_now = record {
@@ -222,18 +234,26 @@ module _ {D : Type 0} {J : Ghosts D} (was : Outside) (first : D) (old new : Answ
     images = images;
   }
 
-  lacks_memory : HoldsIn new.hub → (now_disk ≡ old.hub.journal.disk.now) × (new.hub.state.history ≡ old.hub.state.history)
-      ⊎ (new.hub.state.history ≡ longer_history) → HasPlainReason was (There written writes) (crash_of J first now_disk) NoMemory
+  lacks_memory : HoldsIn new.hub
+      → (now_disk ≡ old.hub.journal.disk.now) × (new.hub.state.history ≡ old.hub.state.history)
+      ⊎ (new.hub.state.history ≡ longer_history)
+      → HasPlainReason was (There written writes) (crash_of J first now_disk) NoMemory
   lacks_memory holds (inl before) =
       inl (ran was first new left written now_left now_reads writes it.lines (before.1 ∙ it.history) holds
       (rw before.0 it.images) took_line)
-  lacks_memory holds (inr grown) = inr (line, ran_line writes (Some line) (stands_as was first new _ (grown ∙ longer) holds))
+  lacks_memory holds (inr grown) = inr
+      (line, ran_line writes (Some line) (stands_as was first new _ (grown ∙ longer) holds))
 
   pub answer_stops : (fault : AnswerFault) → HasNoAnswer old new (done_in old line).entries fault
       → CountsAnswer {T = Bool} (faults_of old.hub) (faults_of new.hub) (Err fault)
       → LinesEnd J was (There written writes) first now_disk (end_of_answer fault)
   answer_stops answers.DiskFault either counts = record {
-    reason = (line, by_case (one_of_two (J.told now_disk) (StandsForHistory old.hub.state.history) (StandsForHistory longer_history) either));
+    reason = (
+      line,
+      by_case
+          (one_of_two (J.told now_disk) (StandsForHistory old.hub.state.history)
+          (StandsForHistory longer_history) either),
+    );
     counts = record {
       reading = same ∙ it.counts.reading;
       disk = subst (λ (n : ℕ). Rose n (faults_of new.hub)) it.counts.disk counts;
@@ -250,17 +270,20 @@ module _ {D : Type 0} {J : Ghosts D} (was : Outside) (first : D) (old new : Answ
       by_case (inl before) = inl (ran_line writes None (subst (λ (h : List Entry). Stands h) it.history before))
       by_case (inr behind) = inr (ran_line writes (Some line) (subst (λ (h : List Entry). Stands h) longer behind))
   answer_stops answers.NoMemory lacks counts =
-      ends was first new left written now_left now_reads writes NoMemory lacks.holds told (lacks_memory lacks.holds lacks.made)
+      ends was first new left written now_left now_reads writes NoMemory lacks.holds told
+      (lacks_memory lacks.holds lacks.made)
       (record { reading = same ∙ it.counts.reading; disk = counts ∙ it.counts.disk; writing = it.counts.writing }) refl
 
   -- Where the line was answered.
-  module _ (text : List ℕ) (does : HasDone old new (done_in old line) text) (passed : faults_of new.hub ≡ faults_of old.hub)
+  module _ (text : List ℕ) (does : HasDone old new (done_in old line) text)
+      (passed : faults_of new.hub ≡ faults_of old.hub)
       (now_written : Option (List ℕ)) (now_writes : ℕ) where
     grows : new.hub.state.history ≡ opening ++ (run opening (it.lines.done ++ line ∷ [])).entries
     grows = does.history ∙ longer
 
     -- its answer was written in part
-    pub writing_stops : (size : ℕ) → size < length text → Appends written now_written (take size text) → Rose writes now_writes
+    pub writing_stops : (size : ℕ) → size < length text → Appends written now_written (take size text)
+        → Rose writes now_writes
         → LinesEnd J was (There now_written now_writes) first now_disk WriteFault
     unfolding answer_line ran_line took_line
     writing_stops size part cut rose =
@@ -293,28 +316,45 @@ module _ {D : Type 0} {J : Ghosts D} (was : Outside) (first : D) (old new : Answ
         short = short-push it.lines.done line it.lines.short found.short;
         texts =
             rw (after, ← it.world, ← it.moment, ← does.answer)
-            (appends-append was.written written now_written (run opening it.lines.done).written text it.lines.texts writes_text);
+            (appends-append was.written written now_written
+            (run opening it.lines.done).written text it.lines.texts writes_text);
       }
 
       counts_on : Counts was (There now_written now_writes) 0
-      counts_on = record { reading = same ∙ it.counts.reading; disk = passed ∙ it.counts.disk; writing = wrote ∙ it.counts.writing }
+      counts_on = record {
+        reading = same ∙ it.counts.reading;
+        disk = passed ∙ it.counts.disk;
+        writing = wrote
+            ∙ it.counts.writing;
+      }
 
       -- behind a last line without a line feed nothing is left
       pub last_answered : is_ended line ≡ false → LinesEnd J was (There now_written now_writes) first now_disk Finished
       unfolding pushed ran
       last_answered open_line =
           let end = found.ended open_line in
-          let nothing : Took now_left now_left = record { taken = []; consumed = consumes-nothing now_left; few = omega arith } in
-          ends was first new now_left now_written now_left now_reads now_writes Finished does.holds told
-          (ran was first new now_left now_written now_left now_reads now_writes pushed grows does.holds images nothing, (end, end)) counts_on refl
+          let nothing : Took now_left now_left = record
+          { taken = []; consumed = consumes-nothing now_left; few = omega arith } in
+          ends was first new now_left now_written now_left now_reads now_writes Finished does.holds told (
+            ran was first new now_left now_written now_left now_reads now_writes pushed grows does.holds images
+                nothing,
+            (end, end),
+          ) counts_on refl
 
       pub next_line : is_ended line ≡ true → Running was (There now_written now_writes) first new
       unfolding pushed
       next_line ended = record {
         lines = pushed;
         feeds =
-            omega (arith, ap line_feeds (joined-push it.lines.done line), line_feeds-append (joined it.lines.done) line, it.feeds,
-            found.feeds ended, length-append it.lines.done (line ∷ []));
+            omega (
+              arith,
+              ap line_feeds (joined-push it.lines.done line),
+              line_feeds-append
+                  (joined it.lines.done) line,
+              it.feeds,
+              found.feeds ended,
+              length-append it.lines.done (line ∷ []),
+            );
         world = rw (after, ← it.world, ← it.moment) does.world;
         moment = rw (after, ← it.world, ← it.moment) does.moment;
         history = grows;

@@ -24,7 +24,8 @@ Holds told images history gate = Keeps told images false (payloads_of history) [
 
 -- the same of a hub
 abbrev pub HoldsIn : {D : Type 0} {J : Ghosts D} → Hub D J → Type 0
-HoldsIn {D} {J} hub = Holds (J.told hub.journal.disk.now) (J.may_leave hub.journal.disk.now) hub.state.history hub.journal.gate
+HoldsIn {D} {J} hub = Holds (J.told hub.journal.disk.now)
+    (J.may_leave hub.journal.disk.now) hub.state.history hub.journal.gate
 
 -- the file stands for this history, or for the one with these entries behind it
 abbrev pub StandsEither : List Entry → List Entry → List ℕ → Type 0

@@ -82,7 +82,13 @@ opening_in w = record { world = w; now = 0; entries = []; written = [] }
 abbrev pub after_line : State → List ℕ → State
 after_line s line =
     let done = answer_line s.world s.now line in
-    record { world = done.world; now = done.now; entries = s.entries ++ done.entries; written = s.written ++ printed done.text }
+    record {
+      world = done.world;
+      now = done.now;
+      entries = s.entries ++ done.entries;
+      written = s.written ++ printed
+          done.text;
+    }
 
 abbrev pub run_from : World → List (List ℕ) → State
 run_from w lines = fold after_line (opening_in w) lines

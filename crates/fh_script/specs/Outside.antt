@@ -30,7 +30,8 @@ abbrev pub Imaging : Type 1
 Imaging = (List ℕ → Type 0) → Type 0
 
 abbrev pub crash_of : {D : Type 0} → Ghosts D → D → D → Imaging
-crash_of J old new P = IfSome (J.told old) (λ _. LeavesOnly J.moment J.left_since old new (λ c. J.may_leave old c ⊎ P c))
+crash_of J old new P = IfSome (J.told old)
+    (λ _. LeavesOnly J.moment J.left_since old new (λ c. J.may_leave old c ⊎ P c))
 
 -- an object has counted a fault exactly at its own status: the source at 5, the disk at 6 and the sink at 7
 pub record Counts (was now : Outside) (code : ℕ) : Type 0 where

@@ -25,7 +25,8 @@ pub record Running {D : Type 0} {J : Ghosts D} (was now : Outside) (first : D) (
   pub whole : answerer.hub.journal.torn ≡ false
   pub holds : HoldsIn answerer.hub
   pub told : StaysTold (J.told first) (J.told answerer.hub.journal.disk.now)
-  pub images : crash_of J first answerer.hub.journal.disk.now (StandsForPart lines.opening (run lines.opening lines.done).entries)
+  pub images : crash_of J first answerer.hub.journal.disk.now
+      (StandsForPart lines.opening (run lines.opening lines.done).entries)
   pub counts : Counts was now 0
 
 -- the statuses with which lines end
@@ -41,11 +42,13 @@ pub record LinesEnd {D : Type 0} (J : Ghosts D) (was now : Outside) (first disk 
   pub of_lines : is_of_lines (plain_code end) ≡ true
 
 -- the same over the objects
-abbrev pub RunsOn : {A B D : Type 0} {J : Ghosts D} → SourceGhosts A → SinkGhosts B → Outside → D → A → B → Answerer D J → Type 0
+abbrev pub RunsOn : {A B D : Type 0} {J : Ghosts D} → SourceGhosts A → SinkGhosts B → Outside → D → A → B
+    → Answerer D J → Type 0
 RunsOn {A} {B} {D} {J} S O was first source sink answerer =
     Running was (outside_of S O J source sink answerer.hub.journal.disk.now) first answerer
 
-abbrev pub EndsWith : {A B D : Type 0} {J : Ghosts D} → SourceGhosts A → SinkGhosts B → Outside → D → A → B → Answerer D J → PlainEnd → Type 0
+abbrev pub EndsWith : {A B D : Type 0} {J : Ghosts D} → SourceGhosts A → SinkGhosts B → Outside → D → A → B
+    → Answerer D J → PlainEnd → Type 0
 EndsWith {A} {B} {D} {J} S O was first source sink answerer end =
     let disk = answerer.hub.journal.disk.now in
     LinesEnd J was (outside_of S O J source sink disk) first disk end

@@ -76,7 +76,8 @@ pub record Ran (was now : Outside) (leaves : Imaging) (next done : Option (List 
   pub lines : Answered was left now.written
   pub took : Took left now.left
   pub only : TakesLine left now.left took.taken next
-  pub stands : IfSome now.told (StandsForHistory (lines.opening ++ (run lines.opening (with_line lines.done done)).entries))
+  pub stands : IfSome now.told
+      (StandsForHistory (lines.opening ++ (run lines.opening (with_line lines.done done)).entries))
   pub images : leaves (StandsForPart lines.opening (run lines.opening (with_line lines.done next)).entries)
 
 -- the next line was done, and its answer was written in part alone
@@ -152,4 +153,6 @@ pub record NoneRose (was now : Outside) : Type 0 where
 
 -- where the bytes are told, a crash leaves whatever history they stand for
 abbrev pub SurvivesCrash : Option (List ℕ) → (List ℕ → Type 0) → Type 0
-SurvivesCrash told images = IfSome told (λ file. (history : List Entry) (c : List ℕ) → StandsForHistory history file → images c → StandsForHistory history c)
+SurvivesCrash told images = IfSome told
+    (λ file. (history : List Entry) (c : List ℕ) → StandsForHistory history file → images c
+    → StandsForHistory history c)

@@ -5,7 +5,8 @@ use Rattle.std.specs.Io.KnownBytes.{Consumes, Keeps}
 use Rattle.fh_script.proofs.LineReading.{consumes-append, found_end, found_ended, found_last, plain-pushed, starts_longer, took_one}
 use Rattle.fh_script.proofs.lines.read_line.Goals as goal
 
-consumes_kept : (was mid now : Option (List ℕ)) (line : List ℕ) → Consumes was mid line → Keeps mid now → Consumes was now line
+consumes_kept : (was mid now : Option (List ℕ)) (line : List ℕ) → Consumes was mid line → Keeps mid now
+    → Consumes was now line
 consumes_kept None mid now line one keeps = tt
 consumes_kept (Some a) None now line one keeps = absurd one
 consumes_kept (Some a) (Some b) None line one keeps = absurd keeps
@@ -16,25 +17,29 @@ some_bytes tested is none counted = grind (arith, nat_tests)
 
 pub returns-then-is_empty-clause-read : goal.returns-then-is_empty-clause-read
 returns-then-is_empty-clause-read g c =
-    found_end _ _ _ c.loop-byte.line.items (grind (arith, nat_tests)) c.loop-byte.invariant.read (rw c.in_default.is at c.in-Ok.ensures.byte)
+    found_end _ _ _ c.loop-byte.line.items (grind (arith, nat_tests)) c.loop-byte.invariant.read
+    (rw c.in_default.is at c.in-Ok.ensures.byte)
 
 pub returns-in_default-clause-read : goal.returns-in_default-clause-read
 returns-in_default-clause-read g c =
     let l = c.loop-byte.invariant in
-    found_last _ _ _ c.loop-byte.line.items l.plain l.read l.short (some_bytes _ c.is_empty.ensures c.if-is_empty.false (search rules))
+    found_last _ _ _ c.loop-byte.line.items l.plain l.read l.short
+    (some_bytes _ c.is_empty.ensures c.if-is_empty.false (search rules))
     (rw c.in_default.is at c.in-Ok.ensures.byte)
 
 pub returns-then-byte-eq-LINE_FEED-clause-read : goal.returns-then-byte-eq-LINE_FEED-clause-read
 returns-then-byte-eq-LINE_FEED-clause-read g c =
     let l = c.loop-byte.invariant in
-    found_ended _ _ _ c.loop-byte.line.items l.plain l.read l.short _ _ c.if-byte-eq-LINE_FEED.true c.in-Ok-push.ensures.items
+    found_ended _ _ _ c.loop-byte.line.items l.plain l.read l.short _ _ c.if-byte-eq-LINE_FEED.true
+    c.in-Ok-push.ensures.items
     (rw c.in-Some.is at c.in-Ok.ensures.byte)
 
 pub returns-then-len-gt-LONGEST_LINE-clause-reason : goal.returns-then-len-gt-LONGEST_LINE-clause-reason
 returns-then-len-gt-LONGEST_LINE-clause-reason g c =
     let l = c.loop-byte.invariant in
     let last = rw c.in-Some.is at c.in-Ok.ensures.byte in (
-      starts_longer _ _ _ c.loop-byte.line.items _ _ l.plain c.if-byte-eq-LINE_FEED.false c.in-Ok-push.ensures.items l.read last (search rules),
+      starts_longer _ _ _ c.loop-byte.line.items _ _ l.plain c.if-byte-eq-LINE_FEED.false c.in-Ok-push.ensures.items
+          l.read last (search rules),
       took_one _ _ _ c.loop-byte.line.items l.plain l.read l.short _ last,
     )
 

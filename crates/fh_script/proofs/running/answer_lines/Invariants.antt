@@ -7,7 +7,8 @@ use Rattle.fh_script.proofs.running.answer_lines.Given as goal
 abbrev pub invariant-loop-end : goal.invariant-loop-end
 invariant-loop-end g l = record {
   on :
-      (was : Outside) (first : g.row.J.Denot) → RunsOn g.S.Source g.O.Sink was first l.initial.source l.initial.sink l.initial.answerer
+      (was : Outside) (first : g.row.J.Denot)
+      → RunsOn g.S.Source g.O.Sink was first l.initial.source l.initial.sink l.initial.answerer
       → RunsOn g.S.Source g.O.Sink was first l.source l.sink l.answerer;
   whole : l.answerer.hub.journal.torn ≡ false;
   holds : HoldsIn l.answerer.hub;

@@ -32,11 +32,14 @@ returns g c =
     let was = outside_of g.S.Source g.O.Sink J c.args.source.now c.args.sink.now first in
     let end = c.answer_lines-end.result in
     let lines = c.answer_lines-end.ensures.ends was first
-    (begins first c.prepare.new.disk answerer _ _ _ _ c.in-Ok.state over.state over.gate over.whole over.now over.disk c.in-Ok.ensures.faithful
-    c.in-Ok.ensures.stands c.in-Ok.ensures.stood c.prepare.ensures.told (c.prepare.ensures.same_history c.in-Ok.state.history) c.in-Ok.ensures.counted) in
+    (begins first c.prepare.new.disk answerer _ _ _ _ c.in-Ok.state over.state over.gate over.whole over.now
+    over.disk c.in-Ok.ensures.faithful
+    c.in-Ok.ensures.stands c.in-Ok.ensures.stood c.prepare.ensures.told
+    (c.prepare.ensures.same_history c.in-Ok.state.history) c.in-Ok.ensures.counted) in
     let last : c.answer_lines-end.new.answerer.hub.journal.disk.now ≡ c.journal-1.given.0 = search rules in
     let here = subst
-    (λ (d : g.row.J.Denot). LinesEnd J was (outside_of g.S.Source g.O.Sink J c.answer_lines-end.new.source c.answer_lines-end.new.sink d) first d end)
+    (λ (d : g.row.J.Denot). LinesEnd J was
+    (outside_of g.S.Source g.O.Sink J c.answer_lines-end.new.source c.answer_lines-end.new.sink d) first d end)
     last lines in
     let other = asked_lines (plain_code end) here.of_lines in
     record {

@@ -28,7 +28,8 @@ returns-in-Ok-clause-ends g c = record {
 
 pub returns-in-Err-clause-ends : goal.returns-in-Err-clause-ends
 returns-in-Err-clause-ends g c =
-    let told = tells_mount _ _ _ c.in-Err.fault c.write_unmounted.result c.write_unmounted.ensures.told c.in-Err.ensures.reason c.in-Err.ensures.counts in
+    let told = tells_mount _ _ _ c.in-Err.fault c.write_unmounted.result c.write_unmounted.ensures.told
+    c.in-Err.ensures.reason c.in-Err.ensures.counts in
     record {
       end = Err c.write_unmounted.result;
       status = c.code.ensures;
@@ -40,14 +41,19 @@ returns-in-Err-clause-ends g c =
     }
 
 pub returns-then-not-is_script-clause-complete : goal.returns-then-not-is_script-clause-complete
-returns-then-not-is_script-clause-complete g c = λ command ready none. absurd (cc (c.is_script.ensures, c.if-not-is_script.true))
+returns-then-not-is_script-clause-complete g c = λ command ready none. absurd
+    (cc (c.is_script.ensures, c.if-not-is_script.true))
 
 pub returns-in-Ok-clause-complete : goal.returns-in-Ok-clause-complete
-returns-in-Ok-clause-complete g c = λ command. ready_ends _ _ _ _ (returns-in-Ok-clause-ends g c) (rw c.conclude-in-Ok.ensures.status c.in-Ok.ensures.asked)
+returns-in-Ok-clause-complete g c = λ command. ready_ends _ _ _ _ (returns-in-Ok-clause-ends g c)
+    (rw c.conclude-in-Ok.ensures.status c.in-Ok.ensures.asked)
 
 pub returns-in-Err-clause-complete : goal.returns-in-Err-clause-complete
-returns-in-Err-clause-complete g c = λ command. ready_ends _ _ _ _ (returns-in-Err-clause-ends g c) (rw c.code.ensures (asked_mount c.write_unmounted.result))
+returns-in-Err-clause-complete g c = λ command. ready_ends _ _ _ _ (returns-in-Err-clause-ends g c)
+    (rw c.code.ensures (asked_mount c.write_unmounted.result))
 
 pub returns-in-Err-clause-durable : goal.returns-in-Err-clause-durable
 returns-in-Err-clause-durable g c = λ certain.
-    c.in-Err.ensures.durable (certain_told c.in-Err.fault c.write_unmounted.result c.write_unmounted.ensures.told (rw c.code.ensures at certain))
+    c.in-Err.ensures.durable
+    (certain_told c.in-Err.fault c.write_unmounted.result c.write_unmounted.ensures.told
+    (rw c.code.ensures at certain))
