@@ -22,12 +22,12 @@ module _ (told : Option (List ℕ)) (images : List ℕ → Type 0) where
   pub kept : (torn : Bool) (history : List Entry) (failed : Entry) (gate : ℕ) → torn ≡ false
       → Holds told images history gate → KeepsHistory told images torn history failed gate
   kept true history failed gate whole holds = absurd (cc)
-  kept false history failed gate whole holds = record { keeps = holds; legal = λ torn. absurd (cc) }
+  kept false history failed gate whole holds = holds
 
   held : (torn : Bool) (history : List Entry) (failed : Entry) (gate : ℕ) → torn ≡ false
       → KeepsHistory told images torn history failed gate → Holds told images history gate
   held true history failed gate whole kept = absurd (cc)
-  held false history failed gate whole kept = kept.keeps
+  held false history failed gate whole kept = kept
 
   -- behind a step that went well
   pub held_again : (torn : Bool) (history : List Entry) (failed e : Entry) (gate : ℕ) → torn ≡ false
@@ -63,7 +63,7 @@ stands_torn : (told : Option (List ℕ)) (images : List ℕ → Type 0) (torn : 
     → KeepsHistory told images torn history failed gate → IfSome told (StandsEither history (failed ∷ []))
 stands_torn None images torn history failed gate kept = tt
 stands_torn (Some file) images torn history failed gate kept =
-    read_as (reads torn (payloads_of history) (bytes_of failed) gate file kept.keeps.as_read)
+    read_as (reads torn (payloads_of history) (bytes_of failed) gate file kept.as_read)
   where
     read_as : MayReadAs torn (payloads_of history) (bytes_of failed) file → StandsEither history (failed ∷ []) file
     read_as (inl before) = inl before
