@@ -1,5 +1,5 @@
 // What answers lines: a hub, and the moment that lines hand in.
-ghost use Rattle.std.specs.Prelude.{◌≡◌, ◌++◌, ◌≢◌, [], ◌∷◌, Some, IfOk, OnOk, string_bytes};
+ghost use Rattle.std.specs.Prelude.{◌≡◌, ◌++◌, [], ◌∷◌, Some, IfOk, OnOk, string_bytes};
 ghost use Rattle.fh_event.specs.Lines.{answer_line as answer_line_of};
 ghost use Rattle.fh_script.specs.Answerer.{IsText, TellsStep};
 ghost use Rattle.fh_script.specs.Machine.{at_text, fault_text, moment_after, printed};
@@ -126,7 +126,6 @@ fn answer_line(alloc: Global, answer: Result<&Reply, &Rule>) -> Result<String, A
 }
 
 fn fault_line(alloc: Global, fault: WordFault) -> Result<String, AnswerFault>
-    requires { fault ≢ WordFault.NoMemory }
     ensures { IsText result (fault_text fault) }
 {
     let text = match fault {
