@@ -8,6 +8,7 @@ pub mod State
 pub mod Plans
 pub mod Hub
 pub mod Mounting
+pub mod Damaged
 pub mod Signs
 pub mod Laws
 pub mod Places

@@ -12,6 +12,7 @@
 #![tactic(auto)]
 
 mod asking;
+mod damaged;
 mod faults;
 mod history;
 mod hub;
@@ -21,6 +22,7 @@ mod plan;
 mod state;
 mod stores;
 
+pub use damaged::write_unmounted;
 pub use faults::{HubFault, HubRule};
 pub use history::History;
 pub use hub::Hub;

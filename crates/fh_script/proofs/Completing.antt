@@ -1,87 +1,93 @@
 -- Where no count rose, the file stands for a legal history and no line is too long, a run is finished or lacks memory.
-use Rattle.std.proofs.Common.{◌≡◌, ◌⊎◌, inl, inr, ℕ, ◌<◌, ◌≤◌, Bool, true, false, ◌&&◌, List, [], ◌∷◌, ◌++◌, Option, Some, None, IfSome, refl, sym, ◌∙◌, ap, subst, arith}
+use Rattle.std.proofs.Common.{◌≡◌, ◌⊎◌, inl, inr, ℕ, ◌+◌, ◌==◌, ◌<◌, ◌≤◌, Bool, true, false, ◌&&◌, List, [], ◌∷◌, ◌++◌, Option, Some, None, Result, Ok, Err, refl, sym, ◌∙◌, ap, subst, arith}
 use Rattle.std.specs.List.{list_all}
 use Rattle.std.proofs.lemmas.List.Folds.{list_all-append}
 use Rattle.std.proofs.lemmas.Bool.{leb-true}
 use Rattle.fh_base.specs.Faults.{Rose}
-use Rattle.fh_hub.specs.Hub.{StandsForHistory}
+use Rattle.fh_base.specs.Ends.{Concludes}
+use Rattle.fh_base.specs.declared.ends.PlainEnd.{PlainEnd}
+use Rattle.fh_base.specs.declared.ends.PlainEnd.TheVariants.{Finished, Usage, ReadFault, DiskFault, WriteFault, LongLine, NoMemory, SpawnFault, DoorFault}
 use Rattle.fh_hub.specs.Mounting.{MountsHistory}
-use Rattle.fh_hub.specs.Replay.{Entry, IsLegal}
-use Rattle.fh_hub.specs.declared.faults.HubRule.{HubRule}
+use Rattle.fh_hub.specs.declared.faults.HubFault.{HubFault}
 use Rattle.fh_hub.specs.declared.faults.HubFault.TheVariants as mounts
-use Rattle.fh_script.specs.Lines.{lines, line_length}
-use Rattle.fh_script.specs.Ends.{code_of}
-use Rattle.fh_script.specs.Script.{Outside, Imaging, is_short_line, Answered, IsLongNext, HasReason, EndsBy, IsReady, NoneRose}
-use Rattle.fh_script.specs.declared.ends.End.{End}
-use Rattle.fh_script.specs.declared.ends.End.TheVariants.{Finished, Usage, BadHeader, BadFrame, ReadFault, DiskFault, WriteFault, LongLine, NoMemory}
+use Rattle.fh_script.specs.Lines.{StartsLong, before_lines, is_line_feed, line_length, lines}
+use Rattle.fh_script.specs.Ends.{code_of, last_line}
+use Rattle.fh_script.specs.Outside.{Counts, Imaging, Outside}
+use Rattle.fh_script.specs.Script.{EndsBy, HasReason, IsReady, NoneRose, Reads, is_short_line}
 
-right_true : (a b : Bool) → (a && b) ≡ true → b ≡ true
-right_true true b both = both
-right_true false b both = cc
+both : (a b : Bool) → (a && b) ≡ true → (a ≡ true) × (b ≡ true)
+both true b all = (refl, all)
+both false b all = absurd (cc)
 
-left_true : (a b : Bool) → (a && b) ≡ true → a ≡ true
-left_true true b both = refl
-left_true false b both = both
+abbrev first_of : List (List ℕ) → List ℕ
+first_of [] = []
+first_of (line ∷ more) = line
 
--- the line behind these is short
-next_short : (done more : List (List ℕ)) (line : List ℕ) → list_all is_short_line (done ++ line ∷ more) ≡ true → line_length line ≤ 140000
-next_short done more line all =
-    leb-true (line_length line) 140000
-    (left_true (is_short_line line) (list_all is_short_line more)
-    (right_true (list_all is_short_line done) (list_all is_short_line (line ∷ more)) (sym (list_all-append is_short_line done (line ∷ more)) ∙ all)))
-
-complete : (was now : Outside) (leaves : Imaging) (opening : List Entry) (file bytes behind : List ℕ) → was.told ≡ Some file
-    → IsLegal opening → StandsForHistory opening file → was.left ≡ Some bytes → list_all is_short_line (lines bytes) ≡ true
-    → (Rose was.read_faults now.read_faults → ⊥) → (Rose was.write_faults now.write_faults → ⊥) → (Rose was.disk_faults now.disk_faults → ⊥)
-    → (end : End) → HasReason was now leaves behind end → (code_of end ≡ 0) ⊎ ((code_of end ≡ 2) ⊎ (code_of end ≡ 9))
-complete was now leaves opening file bytes behind told legal stands left short no_read no_write no_disk = by_end
+line_length-first_of : (bytes : List ℕ) → line_length (first_of (lines bytes)) ≡ line_length bytes
+line_length-first_of [] = refl
+line_length-first_of (b ∷ rest) = by_cases (is_line_feed b) refl (line_length-first_of rest)
   where
-    mounts_not_header : (is : Option (List ℕ)) → MountsHistory (Some file) is (Some mounts.BadHeader) → ⊥
-    mounts_not_header None it = it
-    mounts_not_header (Some b) it = it.2 opening legal stands
+    in_front : (l : List (List ℕ)) → is_line_feed b ≡ false
+        → line_length (first_of (before_lines b l)) ≡ line_length (first_of l) + 1
+    in_front [] plain = rw plain refl
+    in_front (line ∷ more) plain = rw plain refl
 
-    mounts_not_frame : (at : ℕ) (rule : HubRule) (is : Option (List ℕ)) → MountsHistory (Some file) is (Some (mounts.BadFrame at rule)) → ⊥
-    mounts_not_frame at rule None it = it
-    mounts_not_frame at rule (Some b) it = it.2 opening legal stands
+    by_cases : (f : Bool) → is_line_feed b ≡ f → line_length (first_of (lines rest)) ≡ line_length rest
+        → line_length (first_of (lines (b ∷ rest))) ≡ line_length (b ∷ rest)
+    by_cases true feed behind = rw feed (rw feed refl)
+    by_cases false plain behind = rw plain (in_front (lines rest) plain ∙ ap (λ (n : ℕ). n + 1) behind)
 
-    not_long : (more : List (List ℕ)) → IsLongNext (Some bytes) more → (done : List (List ℕ)) → lines bytes ≡ done ++ more → ⊥
-    not_long [] long done same = long
-    not_long (line ∷ more) long done same =
-        omega (arith, long, next_short done more line (subst (λ (l : List (List ℕ)). list_all is_short_line l ≡ true) same short))
+first_short : (l : List (List ℕ)) → list_all is_short_line l ≡ true → line_length (first_of l) ≤ 140000
+first_short [] short = omega arith
+first_short (line ∷ more) short = leb-true (line_length line) 140000 (both _ _ short).0
 
-    by_end : (end : End) → HasReason was now leaves behind end → (code_of end ≡ 0) ⊎ ((code_of end ≡ 2) ⊎ (code_of end ≡ 9))
-    by_end Finished reason = inl refl
-    by_end Usage reason = inr (inl refl)
-    by_end BadHeader reason = absurd (mounts_not_header now.told (rw told at reason.bytes))
-    by_end (BadFrame at rule) reason = absurd (mounts_not_frame at rule now.told (rw told at reason.bytes))
-    by_end ReadFault reason = absurd (no_read reason.0)
-    by_end DiskFault (inl reason) = absurd (no_disk reason.0)
-    by_end DiskFault (inr reason) = absurd (no_disk reason.0)
-    by_end WriteFault reason = absurd (no_write reason.0)
-    by_end LongLine reason = absurd (not_long reason.0 (rw left at reason.1.0) reason.1.1.done (rw left at reason.1.1.wrote.read))
-    by_end NoMemory reason = inr (inr refl)
+not_long : (bytes : List ℕ) (left : Option (List ℕ)) (done : List (List ℕ))
+    → list_all is_short_line (lines bytes) ≡ true
+    → Reads (Some bytes) left done → StartsLong left → ⊥
+not_long bytes None done short read long = read
+not_long bytes (Some l) done short read long =
+    let all : list_all is_short_line (done ++ lines l) ≡ true = rw read at short in
+    let rest = (both _ _ (sym (list_all-append is_short_line done (lines l)) ∙ all)).1 in
+    omega (arith, long, line_length-first_of l, first_short (lines l) rest)
 
--- a run that is asked to has no other end
-pub ready_ends : (was now : Outside) (leaves : Imaging) (code : ℕ) → EndsBy was now leaves code → (code ≡ 2 → ⊥) → IsReady was → NoneRose was now
+-- what stood before the last line
+abbrev mid : Outside → Option (List ℕ) → ℕ → Outside
+mid now before faults = record now { written = before; write_faults = faults }
+
+pub ready_ends : (was now : Outside) (leaves : Imaging) (code : ℕ) → EndsBy was now leaves code
+    → (code == 2) ≡ false → IsReady was → NoneRose was now
     → (code ≡ 0) ⊎ (code ≡ 9)
 ready_ends was now leaves code it asked ready none =
-    by_code
-    (complete was now leaves ready.opening ready.file ready.bytes _ ready.told ready.legal ready.stands ready.left ready.short
-    none.reading none.writing none.disk it.end it.reason)
+    by_end it.end it.status it.reason it.counts it.last
   where
-    by_code : (code_of it.end ≡ 0) ⊎ ((code_of it.end ≡ 2) ⊎ (code_of it.end ≡ 9)) → (code ≡ 0) ⊎ (code ≡ 9)
-    by_code (inl done) = inl (it.status ∙ done)
-    by_code (inr (inl usage)) = absurd (asked (it.status ∙ usage))
-    by_code (inr (inr memory)) = inr (it.status ∙ memory)
-
--- a command has another status than a misuse
-pub asked : (code : ℕ) (end : End) → code ≡ code_of end → (end ≡ Usage → ⊥) → code ≡ 2 → ⊥
-asked code Usage is not two = not refl
-asked code Finished is not two = absurd (omega (arith, is, two))
-asked code BadHeader is not two = absurd (omega (arith, is, two))
-asked code (BadFrame at rule) is not two = absurd (omega (arith, is, two))
-asked code ReadFault is not two = absurd (omega (arith, is, two))
-asked code DiskFault is not two = absurd (omega (arith, is, two))
-asked code WriteFault is not two = absurd (omega (arith, is, two))
-asked code LongLine is not two = absurd (omega (arith, is, two))
-asked code NoMemory is not two = absurd (omega (arith, is, two))
+    by_end : (end : Result PlainEnd HubFault) → code ≡ code_of end
+        → HasReason was (mid now it.before it.faults) leaves end
+        → Counts was (mid now it.before it.faults) (code_of end)
+        → Concludes it.before now.written (last_line end) it.faults now.write_faults → (code ≡ 0) ⊎ (code ≡ 9)
+    by_end (Ok Finished) status reason counts last = inl status
+    by_end (Ok Usage) status reason counts last = absurd (cc (rw status at asked))
+    by_end (Ok ReadFault) status reason counts last = absurd (none.reading counts.reading)
+    by_end (Ok DiskFault) status reason counts last = absurd (none.disk counts.disk)
+    by_end (Ok WriteFault) status reason counts last =
+        absurd (none.writing (subst (λ (n : ℕ). Rose was.write_faults n)
+        (sym (last.passed (omega arith))) counts.writing))
+    by_end (Ok LongLine) status reason counts last =
+        absurd (not_long ready.bytes reason.0.left reason.0.lines.done ready.short
+        (rw ready.left at reason.0.lines.read) reason.1)
+    by_end (Ok NoMemory) status reason counts last = inr status
+    by_end (Ok SpawnFault) status reason counts last = absurd reason
+    by_end (Ok DoorFault) status reason counts last = absurd reason
+    by_end (Err mounts.BadHeader) status reason counts last =
+        absurd (no_header now.told (rw ready.told at reason.bytes))
+      where
+        no_header : (is : Option (List ℕ)) → MountsHistory (Some ready.file) is (Some mounts.BadHeader) → ⊥
+        no_header None it = it
+        no_header (Some b) it = it.2 ready.opening ready.legal ready.stands
+    by_end (Err (mounts.BadFrame at rule)) status reason counts last =
+        absurd (no_frame now.told (rw ready.told at reason.bytes))
+      where
+        no_frame : (is : Option (List ℕ)) → MountsHistory (Some ready.file) is (Some (mounts.BadFrame at rule)) → ⊥
+        no_frame None it = it
+        no_frame (Some b) it = it.2 ready.opening ready.legal ready.stands
+    by_end (Err mounts.DiskFault) status reason counts last = absurd (none.disk counts.disk)
+    by_end (Err mounts.NoMemory) status reason counts last = inr status

@@ -3,7 +3,7 @@ use Rattle.std.proofs.Common.{◌≡◌, ℕ, false, List, Ok, Err, refl}
 use Rattle.std.specs.Prelude.{codes}
 use Rattle.std.specs.Str.{IsUtf8, bytes_eq}
 use Rattle.percent_encoding.specs.Percent.{percent_decode}
-use Rattle.fh_script.specs.declared.faults.LineFault.TheVariants.{BadText}
+use Rattle.fh_script.specs.declared.faults.WordFault.TheVariants.{BadText}
 use Rattle.fh_script.specs.Forms.{text_of}
 use Rattle.fh_base.proofs.Utf8.{is_text, is_no_text}
 

@@ -1,11 +1,8 @@
 pub mod LineReading
 pub mod Steps
 pub mod Imaging
-pub mod Turns
 pub mod Turning
-pub mod Starting
-pub mod LastLines
+pub mod Mounting
 pub mod Completing
 pub mod Decoding
-pub mod Numbers
 pub mod Printing

@@ -1,135 +1,141 @@
--- What a source has left, once a line of it was read.
-use Rattle.std.proofs.Common.{if◌then◌else◌, ◌≡◌, ℕ, ◌+◌, ◌<◌, ◌≤◌, Bool, true, false, not, ◌&&◌, List, [], ◌∷◌, ◌++◌, length, Option, Some, None, refl, sym, ◌∙◌, ap, arith, append_assoc, append-nil, ◌-◌, take}
+-- What a line that was read leaves of a source.
+use Rattle.std.proofs.Common.{if◌then◌else◌, ◌≡◌, ℕ, ◌+◌, ◌-◌, ◌<◌, ◌≤◌, Bool, true, false, List, [], ◌∷◌, ◌++◌, length, take, Option, Some, None, refl, sym, ◌∙◌, ap, arith, append_assoc, append-nil, length-append}
 use Rattle.std.proofs.lemmas.Bool.Decides.{nat_tests, Decides-eqb}
 use Rattle.std.proofs.lemmas.Slice.Eq.{ends_is}
-use Rattle.std.specs.List.{list_all}
 use Rattle.std.specs.Io.KnownBytes.{Consumes, IsAtEnd}
-use Rattle.fh_base.specs.Faults.{Rose}
-use Rattle.fh_script.specs.Lines.{is_line_feed, before_lines, lines, line_length, line_feeds, is_ended, ReadsLine, StartsLong}
+use Rattle.fh_script.specs.Lines.{FindsEnd, FindsLine, IsFirstLine, StartsLong, Took, is_ended, is_line_feed, before_lines, line_feeds, line_length, lines}
 
--- the bytes have no line feed
-abbrev pub is_plain : List ℕ → Bool
-is_plain line = list_all (λ b. not (is_line_feed b)) line
-
-first_plain : (b : ℕ) (line : List ℕ) → is_plain (b ∷ line) ≡ true → is_line_feed b ≡ false
-first_plain b line plain = by_cases (is_line_feed b) (is_plain line) plain
+pub line_feeds-append : (a b : List ℕ) → line_feeds (a ++ b) ≡ line_feeds a + line_feeds b
+line_feeds-append [] b = omega arith
+line_feeds-append (x ∷ a) b = one_more x a b (line_feeds-append a b)
   where
-    by_cases : (f r : Bool) → (not f && r) ≡ true → f ≡ false
-    by_cases true r both = sym both
-    by_cases false r both = refl
+    one_more : (x : ℕ) (a b : List ℕ) → line_feeds (a ++ b) ≡ line_feeds a + line_feeds b
+        → line_feeds (x ∷ a ++ b) ≡ line_feeds (x ∷ a) + line_feeds b
+    one_more x a b behind = grind (arith, nat_tests)
 
-rest_plain : (b : ℕ) (line : List ℕ) → is_plain (b ∷ line) ≡ true → is_plain line ≡ true
-rest_plain b line plain = by_cases (is_line_feed b) (is_plain line) plain
+-- the first of bytes without a line feed is none, and so are the others
+plain_parts : (b : ℕ) (line : List ℕ) → line_feeds (b ∷ line) ≡ 0 → (is_line_feed b ≡ false) × (line_feeds line ≡ 0)
+plain_parts b line plain = by_cases (is_line_feed b) plain
   where
-    by_cases : (f r : Bool) → (not f && r) ≡ true → r ≡ true
-    by_cases true r both = cc
-    by_cases false r both = both
+    by_cases : (f : Bool) → (if f then line_feeds line + 1 else line_feeds line) ≡ 0
+        → (f ≡ false) × (line_feeds line ≡ 0)
+    by_cases true none = absurd (omega arith)
+    by_cases false none = (refl, none)
 
-lines-ended : (line rest : List ℕ) → is_plain line ≡ true → lines (line ++ 10 ∷ rest) ≡ (line ++ 10 ∷ []) ∷ lines rest
+plain-push : (line : List ℕ) (b : ℕ) → line_feeds line ≡ 0 → (b ≡ 10 → ⊥) → line_feeds (line ++ b ∷ []) ≡ 0
+plain-push line b plain other =
+    let none : line_feeds (b ∷ []) ≡ 0 = grind (arith, nat_tests) in
+    omega (arith, line_feeds-append line (b ∷ []), plain, none)
+
+lines-ended : (line rest : List ℕ) → line_feeds line ≡ 0 → lines (line ++ 10 ∷ rest) ≡ (line ++ 10 ∷ []) ∷ lines rest
 lines-ended [] rest plain = refl
 lines-ended (b ∷ line) rest plain =
-    rw (first_plain b line plain) (ap (before_lines b) (lines-ended line rest (rest_plain b line plain)))
+    let parts = plain_parts b line plain in rw parts.0 (ap (before_lines b) (lines-ended line rest parts.1))
 
-lines-last : (b : ℕ) (line : List ℕ) → is_plain (b ∷ line) ≡ true → lines (b ∷ line) ≡ (b ∷ line) ∷ []
-lines-last b [] plain = rw (first_plain b [] plain) refl
+lines-last : (b : ℕ) (line : List ℕ) → line_feeds (b ∷ line) ≡ 0 → lines (b ∷ line) ≡ (b ∷ line) ∷ []
+lines-last b [] plain = rw (plain_parts b [] plain).0 refl
 lines-last b (d ∷ line) plain =
-    rw (first_plain b (d ∷ line) plain) (ap (before_lines b) (lines-last d line (rest_plain b (d ∷ line) plain)))
+    let parts = plain_parts b (d ∷ line) plain in rw parts.0 (ap (before_lines b) (lines-last d line parts.1))
 
-pub line_length-ended : (line : List ℕ) → is_plain line ≡ true → line_length (line ++ 10 ∷ []) ≡ length line
-line_length-ended [] plain = refl
-line_length-ended (b ∷ line) plain =
-    rw (first_plain b line plain) (omega (arith, line_length-ended line (rest_plain b line plain)))
+line_length-plain : (line rest : List ℕ) → line_feeds line ≡ 0
+    → line_length (line ++ rest) ≡ length line + line_length rest
+line_length-plain [] rest plain = omega arith
+line_length-plain (b ∷ line) rest plain =
+    let parts = plain_parts b line plain in rw parts.0 (omega (arith, line_length-plain line rest parts.1))
 
-pub length-le-line_length : (line rest : List ℕ) → is_plain line ≡ true → length line ≤ line_length (line ++ rest)
-length-le-line_length [] rest plain = omega arith
-length-le-line_length (b ∷ line) rest plain =
-    rw (first_plain b line plain) (omega (arith, length-le-line_length line rest (rest_plain b line plain)))
+not_ended : (line : List ℕ) → line_feeds line ≡ 0 → is_ended line ≡ true → ⊥
+not_ended line plain ended =
+    let split = (ends_is Decides-eqb line (10 ∷ []) (is_ended line) refl).0 ended in
+    omega (arith, plain, ap line_feeds split, line_feeds-append (take (length line - 1) line) (10 ∷ []))
 
-pub consumes-append : (was mid now : Option (List ℕ)) (first second : List ℕ) → Consumes was mid first → Consumes mid now second → Consumes was now (first ++ second)
+pub consumes-append : (was mid now : Option (List ℕ)) (first second : List ℕ)
+    → Consumes was mid first → Consumes mid now second → Consumes was now (first ++ second)
 consumes-append None mid now first second one two = tt
 consumes-append (Some a) None now first second one two = absurd one
 consumes-append (Some a) (Some b) None first second one two = absurd two
 consumes-append (Some a) (Some b) (Some d) first second one two =
     one ∙ ap (λ (l : List ℕ). first ++ l) two ∙ sym (append_assoc first second d)
 
--- a line with its line feed was read
-pub reads_ended : (was mid now : Option (List ℕ)) (line : List ℕ) → is_plain line ≡ true
-    → Consumes was mid line → Consumes mid now (10 ∷ []) → ReadsLine was now (line ++ 10 ∷ []) true
-reads_ended None mid now line plain one two = tt
-reads_ended (Some a) None now line plain one two = absurd one
-reads_ended (Some a) (Some b) None line plain one two = absurd two
-reads_ended (Some a) (Some b) (Some d) line plain one two =
-    ap lines (one ∙ ap (λ (l : List ℕ). line ++ l) two) ∙ lines-ended line d plain
+first_ended : (was now : Option (List ℕ)) (line : List ℕ) → line_feeds line ≡ 0 → Consumes was now (line ++ 10 ∷ [])
+    → IsFirstLine was now (line ++ 10 ∷ [])
+first_ended None now line plain taken = tt
+first_ended (Some a) None line plain taken = absurd taken
+first_ended (Some a) (Some b) line plain taken = ap lines (taken ∙ append_assoc line (10 ∷ []) b)
+    ∙ lines-ended line b plain
 
--- the source was at its end behind the line
-pub reads_last : (was mid now : Option (List ℕ)) (line : List ℕ) → is_plain line ≡ true → 0 < length line
-    → Consumes was mid line → Consumes mid now [] × IsAtEnd now → ReadsLine was now line true
-reads_last None mid now line plain some one two = tt
-reads_last (Some a) None now line plain some one two = absurd one
-reads_last (Some a) (Some b) None line plain some one two = absurd two.0
-reads_last (Some a) (Some b) (Some d) [] plain some one two = absurd (omega (arith, some))
-reads_last (Some a) (Some b) (Some d) (e ∷ line) plain some one two =
-    let ended : a ≡ e ∷ line = one ∙ ap (λ (l : List ℕ). (e ∷ line) ++ l) (two.0 ∙ two.1) ∙ append-nil (e ∷ line) in
-    ap lines ended ∙ lines-last e line plain ∙ ap (λ (l : List ℕ). (e ∷ line) ∷ lines l) (sym two.1)
+first_last : (was now : Option (List ℕ)) (line : List ℕ) → line_feeds line ≡ 0 → 0 < length line
+    → Consumes was now line → IsAtEnd now
+    → IsFirstLine was now line
+first_last None now line plain some taken end = tt
+first_last (Some a) None line plain some taken end = absurd taken
+first_last (Some a) (Some b) [] plain some taken end = absurd (omega (arith, some))
+first_last (Some a) (Some b) (e ∷ line) plain some taken end =
+    rw end (ap lines (rw end at taken ∙ append-nil (e ∷ line)) ∙ lines-last e line plain)
 
-pub reads_none : (was mid now : Option (List ℕ)) (line : List ℕ) → length line ≡ 0
-    → Consumes was mid line → Consumes mid now [] × IsAtEnd now → ReadsLine was now line false
-reads_none None mid now line none one two = two.1
-reads_none (Some a) None now line none one two = absurd one
-reads_none (Some a) (Some b) None line none one two = absurd two.0
-reads_none (Some a) (Some b) (Some d) [] none one two = (one ∙ two.0 ∙ two.1, two.1)
-reads_none (Some a) (Some b) (Some d) (e ∷ line) none one two = absurd (omega (arith, none))
+module _ (was mid now : Option (List ℕ)) (line : List ℕ) (plain : line_feeds line ≡ 0) (read : Consumes was mid line)
+    (few : length line ≤ 140000) where
+  -- a line feed was read behind the line
+  pub found_ended : (byte : ℕ) (new : List ℕ) → byte ≡ 10 → new ≡ line ++ byte ∷ [] → Consumes mid now (byte ∷ [])
+      → FindsLine was now new
+  found_ended byte new feed is last =
+      let taken = consumes-append was mid now line (10 ∷ []) read (rw feed at last) in
+      rw (is, feed) (record {
+        first = first_ended was now line plain taken;
+        consumed = taken;
+        short = omega (arith, few, line_length-plain line (10 ∷ []) plain);
+        stored = omega (arith, few, length-append line (10 ∷ []));
+        feeds = λ ended. omega (arith, plain, line_feeds-append line (10 ∷ []));
+        ended = λ not.
+            let is_so = (ends_is Decides-eqb (line ++ 10 ∷ []) (10 ∷ []) (is_ended (line ++ 10 ∷ [])) refl).1 line
+            refl in absurd cc;
+      })
 
-pub starts_long : (was mid : Option (List ℕ)) (line : List ℕ) → is_plain line ≡ true → Consumes was mid line → 140000 < length line → StartsLong was
-starts_long None mid line plain one long = tt
+  -- the source was at its end behind the line
+  pub found_last : 0 < length line → Consumes mid now [] × IsAtEnd now → FindsLine was now line
+  found_last some end =
+      let taken = rw append-nil at (consumes-append was mid now line [] read end.0) in
+      record {
+        first = first_last was now line plain some taken end.1;
+        consumed = taken;
+        short = omega (arith, few, rw append-nil at (line_length-plain line [] plain));
+        stored = omega (arith, few);
+        feeds = λ ended. absurd (not_ended line plain ended);
+        ended = λ not. end.1;
+      }
+
+  -- the line so far and one byte more
+  pub took_one : (byte : ℕ) → Consumes mid now (byte ∷ []) → Took was now
+  took_one byte last = record {
+    taken = line ++ byte ∷ [];
+    consumed = consumes-append was mid now line (byte ∷ []) read last;
+    few = omega (arith, few, length-append line (byte ∷ []));
+  }
+
+-- nothing was read, and the source is at its end
+pub found_end : (was mid now : Option (List ℕ)) (line : List ℕ) → length line ≡ 0 → Consumes was mid line
+    → Consumes mid now [] × IsAtEnd now → FindsEnd was now
+found_end None mid now line none one two = record { was_ended = tt; ended = two.1; consumed = tt }
+found_end (Some a) None now line none one two = absurd one
+found_end (Some a) (Some b) None line none one two = absurd two.0
+found_end (Some a) (Some b) (Some d) [] none one two =
+    record { was_ended = one ∙ two.0 ∙ two.1; ended = two.1; consumed = one ∙ two.0 }
+found_end (Some a) (Some b) (Some d) (e ∷ line) none one two = absurd (omega (arith, none))
+
+starts_long : (was now : Option (List ℕ)) (line : List ℕ) → line_feeds line ≡ 0 → Consumes was now line
+    → 140000 < length line → StartsLong was
+starts_long None now line plain one long = tt
 starts_long (Some a) None line plain one long = absurd one
-starts_long (Some a) (Some b) line plain one long = rw one (omega (arith, length-le-line_length line b plain))
-
-pub line_length-le : (line : List ℕ) → line_length line ≤ length line
-line_length-le [] = omega arith
-line_length-le (b ∷ line) = by_cases (is_line_feed b) (line_length-le line)
-  where
-    by_cases : (f : Bool) → line_length line ≤ length line → (if f then 0 else line_length line + 1) ≤ length (b ∷ line)
-    by_cases true shorter = omega arith
-    by_cases false shorter = omega arith
-
-pub plain-push : (line : List ℕ) (b : ℕ) → is_plain line ≡ true → (b ≡ 10 → ⊥) → is_plain (line ++ b ∷ []) ≡ true
-plain-push [] b plain other = grind (arith, nat_tests)
-plain-push (d ∷ line) b plain other =
-    rw (first_plain d line plain) (plain-push line b (rest_plain d line plain) other)
+starts_long (Some a) (Some b) line plain one long = rw one (omega (arith, long, line_length-plain line b plain))
 
 -- one more byte that is no line feed
-pub starts_longer : (was mid now : Option (List ℕ)) (line new : List ℕ) (b : ℕ) → is_plain line ≡ true → (b ≡ 10 → ⊥) → new ≡ line ++ b ∷ []
+pub starts_longer : (was mid now : Option (List ℕ)) (line new : List ℕ) (b : ℕ) → line_feeds line ≡ 0 → (b ≡ 10 → ⊥)
+    → new ≡ line ++ b ∷ []
     → Consumes was mid line → Consumes mid now (b ∷ []) → 140000 < length new → StartsLong was
 starts_longer was mid now line new b plain other is one two long =
-    starts_long was now (line ++ b ∷ []) (plain-push line b plain other) (consumes-append was mid now line (b ∷ []) one two) (rw is at long)
+    starts_long was now (line ++ b ∷ []) (plain-push line b plain other)
+    (consumes-append was mid now line (b ∷ []) one two) (rw is at long)
 
--- Line feeds.
-
-pub line_feeds-append : (a b : List ℕ) → line_feeds (a ++ b) ≡ line_feeds a + line_feeds b
-line_feeds-append [] b = omega arith
-line_feeds-append (x ∷ a) b = by_cases (is_line_feed x) (line_feeds-append a b)
-  where
-    by_cases : (f : Bool) → line_feeds (a ++ b) ≡ line_feeds a + line_feeds b
-        → (if f then line_feeds (a ++ b) + 1 else line_feeds (a ++ b)) ≡ (if f then line_feeds a + 1 else line_feeds a) + line_feeds b
-    by_cases true behind = omega (arith, behind)
-    by_cases false behind = behind
-
-pub line_feeds-plain : (line : List ℕ) → is_plain line ≡ true → line_feeds line ≡ 0
-line_feeds-plain [] plain = refl
-line_feeds-plain (b ∷ line) plain = rw (first_plain b line plain) (line_feeds-plain line (rest_plain b line plain))
-
--- such bytes don't end with one
-pub not_ended : (line : List ℕ) → is_plain line ≡ true → is_ended line ≡ true → ⊥
-not_ended line plain ended =
-    let split = (ends_is Decides-eqb line (10 ∷ []) (is_ended line) refl).0 ended in
-    omega (arith, line_feeds-plain line plain, ap line_feeds split, line_feeds-append (take (length line - 1) line) (10 ∷ []))
-
-pub line_feeds-ended : (line : List ℕ) → is_plain line ≡ true → line_feeds (line ++ 10 ∷ []) ≡ 1
-line_feeds-ended line plain = line_feeds-append line (10 ∷ []) ∙ ap (λ (n : ℕ). n + 1) (line_feeds-plain line plain)
-
--- Counts of faults.
-
--- a count that rose behind a later one rose since the first
-pub rose_since : (first before now : ℕ) → first ≤ before → Rose before now → Rose first now
-rose_since first before now later rose = omega (arith, later, rose)
+-- one more byte that is none keeps the line without one
+pub plain-pushed : (line new : List ℕ) (b : ℕ) → line_feeds line ≡ 0 → (b ≡ 10 → ⊥) → new ≡ line ++ b ∷ []
+    → line_feeds new ≡ 0
+plain-pushed line new b plain other is = rw is (plain-push line b plain other)

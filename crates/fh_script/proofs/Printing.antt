@@ -17,7 +17,8 @@ use Rattle.fh_script.proofs.Decoding.{text_of-decoded}
 abbrev printed : Bool → ℕ → List ℕ
 printed t b = cond t (percent_encode_byte b) (b ∷ [])
 
-first_decoded : (t : Bool) (b : ℕ) (rest : List ℕ) → is_escaped b ≡ t → b < 256 → percent_decode (printed t b ++ rest) ≡ b ∷ percent_decode rest
+first_decoded : (t : Bool) (b : ℕ) (rest : List ℕ) → is_escaped b ≡ t → b < 256
+    → percent_decode (printed t b ++ rest) ≡ b ∷ percent_decode rest
 first_decoded true b rest is small = percent_decode-percent_encode_byte b rest small
 first_decoded false b rest is small = percent_decode_not_percent b rest (λ percent. grind (arith, nat_tests))
 
@@ -37,7 +38,8 @@ pub read_again : (text : List ℕ) → All IsByte text → IsUtf8 text → text_
 unfolding text_of escaped
 read_again [] small utf8 = refl
 read_again (b ∷ bytes) small utf8 =
-    text_of-decoded _ (b ∷ bytes) (other_word (is_escaped b) b (flat_map escaped_byte bytes) refl) (sym (all_decoded (b ∷ bytes) small)) (b ∷ bytes) utf8 refl
+    text_of-decoded _ (b ∷ bytes) (other_word (is_escaped b) b (flat_map escaped_byte bytes) refl)
+    (sym (all_decoded (b ∷ bytes) small)) (b ∷ bytes) utf8 refl
 
 abbrev IsNoSpace : ℕ → Type 0
 IsNoSpace b = (b == 32) ≡ false
@@ -46,13 +48,15 @@ escape_is_no_space : (b : ℕ) → IsEscapeByte b → IsNoSpace b
 escape_is_no_space b is = grind (arith, nat_tests)
 
 first_has_no_space : (t : Bool) (b : ℕ) → is_escaped b ≡ t → All IsNoSpace (printed t b)
-first_has_no_space true b is = All-weaker IsEscapeByte IsNoSpace escape_is_no_space (percent_encode_byte b) (All-percent_encode_byte b)
+first_has_no_space true b is = All-weaker IsEscapeByte IsNoSpace escape_is_no_space (percent_encode_byte b)
+    (All-percent_encode_byte b)
 first_has_no_space false b is = All-cons IsNoSpace b [] (grind (arith, nat_tests)) (All-nil IsNoSpace)
 
 has_no_space : (bytes : List ℕ) → All IsNoSpace (flat_map escaped_byte bytes)
 has_no_space [] = All-nil IsNoSpace
 has_no_space (b ∷ bytes) =
-    All-append IsNoSpace (escaped_byte b) (flat_map escaped_byte bytes) (first_has_no_space (is_escaped b) b refl) (has_no_space bytes)
+    All-append IsNoSpace (escaped_byte b) (flat_map escaped_byte bytes) (first_has_no_space (is_escaped b) b refl)
+    (has_no_space bytes)
 
 has_a_byte : (t : Bool) (b : ℕ) (rest : List ℕ) → 0 < length (printed t b ++ rest)
 unfolding percent_encode_byte
@@ -68,4 +72,5 @@ pub one_word : (text : List ℕ) → words (escaped text) ≡ escaped text ∷ [
 unfolding escaped
 one_word [] = refl
 one_word (b ∷ bytes) =
-    one_part (flat_map escaped_byte (b ∷ bytes)) (has_no_space (b ∷ bytes)) (has_a_byte (is_escaped b) b (flat_map escaped_byte bytes))
+    one_part (flat_map escaped_byte (b ∷ bytes)) (has_no_space (b ∷ bytes))
+    (has_a_byte (is_escaped b) b (flat_map escaped_byte bytes))

@@ -2,67 +2,67 @@
 use Rattle.std.specs.Prelude.{ℕ, ◌+◌, ◌==◌, if◌then◌else◌, List, [], ◌∷◌, length, slice_index_or, codes, Some, None, Result, Ok, Err}
 use Rattle.std.specs.Str.{bytes_eq, is_utf8}
 use Rattle.fh_event.specs.declared.command.Command.TheVariants.{MakeQueue, Put, Take, Update, Delete, Clear, Peek, Locate}
-use Rattle.fh_script.specs.declared.faults.LineFault.{LineFault}
-use Rattle.fh_script.specs.declared.faults.LineFault.TheVariants.{BadText, BadWord, BadCount}
-use Rattle.fh_script.specs.declared.grammar.Line.{Line}
-use Rattle.fh_script.specs.declared.grammar.Line.TheVariants.{Blank, At, Command}
+use Rattle.fh_script.specs.declared.faults.WordFault.{WordFault}
+use Rattle.fh_script.specs.declared.faults.WordFault.TheVariants.{BadText, BadWord, BadCount}
+use Rattle.fh_script.specs.declared.grammar.LineAsk.{LineAsk}
+use Rattle.fh_script.specs.declared.grammar.LineAsk.TheVariants.{Blank, At, Ask}
 use Rattle.fh_script.specs.Forms.{◌>>=◌, Form, number, number_or, lifetime, text, Meaning, meaning_of}
 use Rattle.fh_script.specs.Lines.{line_text}
 use Rattle.fh_script.specs.Words.{words}
 
 -- a line that still takes what words of these forms stand for
 abbrev pub Taking : List Form → Type 0
-Taking [] = Line
+Taking [] = LineAsk
 Taking (form ∷ forms) = Meaning form → Taking forms
 
 -- the words from this place on, each of its form: the first faulty one decides
-abbrev pub read_from : ℕ → (forms : List Form) → Taking forms → List (List ℕ) → Result Line LineFault
+abbrev pub read_from : ℕ → (forms : List Form) → Taking forms → List (List ℕ) → Result LineAsk WordFault
 read_from place [] line words = Ok line
 read_from place (form ∷ forms) taking words =
     meaning_of form (slice_index_or words place []) >>= λ meaning. read_from (place + 1) forms (taking meaning) words
 
 -- as many words as there are forms, each of its form
-abbrev pub read : (forms : List Form) → Taking forms → List (List ℕ) → Result Line LineFault
+abbrev pub read : (forms : List Form) → Taking forms → List (List ℕ) → Result LineAsk WordFault
 read forms taking words = if length words == length forms then read_from 0 forms taking words else Err BadCount
 
 -- The words behind each verb.
 
-unfoldable pub at_line : List (List ℕ) → Result Line LineFault
+unfoldable pub at_line : List (List ℕ) → Result LineAsk WordFault
 at_line = read (number ∷ []) (λ ms. At ms)
 
-unfoldable pub queue_line : List (List ℕ) → Result Line LineFault
-queue_line = read (text ∷ []) (λ queue. Command (MakeQueue queue))
+unfoldable pub queue_line : List (List ℕ) → Result LineAsk WordFault
+queue_line = read (text ∷ []) (λ queue. Ask (MakeQueue queue))
 
-unfoldable pub put_line : List (List ℕ) → Result Line LineFault
+unfoldable pub put_line : List (List ℕ) → Result LineAsk WordFault
 put_line =
     read (text ∷ number_or 0 ∷ lifetime ∷ text ∷ [])
-    (λ queue delay ttl text. Command (Put queue delay ttl text))
+    (λ queue delay ttl text. Ask (Put queue delay ttl text))
 
-unfoldable pub take_line : List (List ℕ) → Result Line LineFault
-take_line = read (text ∷ number_or 1 ∷ number_or 30 ∷ []) (λ queue count hold. Command (Take queue count hold))
+unfoldable pub take_line : List (List ℕ) → Result LineAsk WordFault
+take_line = read (text ∷ number_or 1 ∷ number_or 30 ∷ []) (λ queue count hold. Ask (Take queue count hold))
 
-unfoldable pub peek_line : List (List ℕ) → Result Line LineFault
-peek_line = read (text ∷ number_or 1 ∷ []) (λ queue count. Command (Peek queue count))
+unfoldable pub peek_line : List (List ℕ) → Result LineAsk WordFault
+peek_line = read (text ∷ number_or 1 ∷ []) (λ queue count. Ask (Peek queue count))
 
 -- with a new text, or without
-unfoldable pub update_line : List (List ℕ) → Result Line LineFault
+unfoldable pub update_line : List (List ℕ) → Result LineAsk WordFault
 update_line words =
     if length words == 5
     then read (text ∷ number ∷ number ∷ number_or 30 ∷ text ∷ [])
-    (λ queue n receipt hold text. Command (Update queue n receipt hold (Some text))) words
+    (λ queue n receipt hold text. Ask (Update queue n receipt hold (Some text))) words
     else read (text ∷ number ∷ number ∷ number_or 30 ∷ [])
-    (λ queue n receipt hold. Command (Update queue n receipt hold None)) words
+    (λ queue n receipt hold. Ask (Update queue n receipt hold None)) words
 
-unfoldable pub delete_line : List (List ℕ) → Result Line LineFault
-delete_line = read (text ∷ number ∷ number ∷ []) (λ queue n receipt. Command (Delete queue n receipt))
+unfoldable pub delete_line : List (List ℕ) → Result LineAsk WordFault
+delete_line = read (text ∷ number ∷ number ∷ []) (λ queue n receipt. Ask (Delete queue n receipt))
 
-unfoldable pub clear_line : List (List ℕ) → Result Line LineFault
-clear_line = read (text ∷ []) (λ queue. Command (Clear queue))
+unfoldable pub clear_line : List (List ℕ) → Result LineAsk WordFault
+clear_line = read (text ∷ []) (λ queue. Ask (Clear queue))
 
-unfoldable pub where_line : List (List ℕ) → Result Line LineFault
-where_line = read (number ∷ []) (λ n. Command (Locate n))
+unfoldable pub where_line : List (List ℕ) → Result LineAsk WordFault
+where_line = read (number ∷ []) (λ n. Ask (Locate n))
 
-unfoldable pub line_of_words : List (List ℕ) → Result Line LineFault
+unfoldable pub line_of_words : List (List ℕ) → Result LineAsk WordFault
 line_of_words [] = Ok Blank
 line_of_words (verb ∷ words) =
     if bytes_eq verb (codes "at") then at_line words
@@ -77,5 +77,5 @@ line_of_words (verb ∷ words) =
     else Err BadWord
 
 -- what the bytes of a line stand for, with or without the line feed
-unfoldable pub line_of : List ℕ → Result Line LineFault
+unfoldable pub line_of : List ℕ → Result LineAsk WordFault
 line_of line = if is_utf8 (line_text line) then line_of_words (words (line_text line)) else Err BadText

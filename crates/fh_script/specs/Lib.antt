@@ -1,9 +1,10 @@
+pub mod Answerer
 pub mod Ends
 pub mod Forms
 pub mod Grammar
 pub mod Lines
 pub mod Machine
-pub mod Reading
+pub mod Outside
+pub mod Running
 pub mod Script
-pub mod Session
 pub mod Words

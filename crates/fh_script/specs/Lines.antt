@@ -1,11 +1,11 @@
--- The lines of a script, each with the bytes that end it.
-use Rattle.std.specs.Prelude.{◌≡◌, ⊤, ℕ, ◌+◌, ◌-◌, ◌<◌, ◌≤◌, ◌==◌, List, [], ◌∷◌, length, take, if◌then◌else◌, Bool, true, false, Option, Some, None}
+-- The lines of a script, each with the bytes that end it, and what reading one takes from a source.
+use Rattle.std.specs.Prelude.{◌≡◌, ⊤, ℕ, ◌+◌, ◌-◌, ◌<◌, ◌≤◌, ◌==◌, nat_eq, List, [], ◌∷◌, length, take, if◌then◌else◌, Bool, true, false, Option, Some, None, Result, Ok, Err}
 use Rattle.std.specs.List.{ends_with}
-use Rattle.std.specs.Prelude.{nat_eq}
 use Rattle.std.specs.Io.KnownBytes.{Consumes, IsAtEnd}
 use Rattle.fh_base.specs.Faults.{Rose}
-use Rattle.fh_script.specs.declared.ends.End.{End}
-use Rattle.fh_script.specs.declared.ends.End.TheVariants.{Finished, Usage, BadHeader, BadFrame, ReadFault, DiskFault, WriteFault, LongLine, NoMemory}
+use Rattle.fh_base.specs.Limits.{longest_line}
+use Rattle.fh_script.specs.declared.faults.LineFault.{LineFault}
+use Rattle.fh_script.specs.declared.faults.LineFault.TheVariants.{ReadFault, TooLong, NoMemory}
 
 abbrev pub is_line_feed : ℕ → Bool
 is_line_feed b = b == 10
@@ -32,19 +32,6 @@ line_text line =
     else if ends_with nat_eq line (10 ∷ []) then take (length line - 1) line
     else line
 
--- where a source tells: the first of its lines was read, or there was none
-abbrev pub ReadsLine : Option (List ℕ) → Option (List ℕ) → List ℕ → Bool → Type 0
-ReadsLine None now line true = ⊤
-ReadsLine None now line false = IsAtEnd now
-ReadsLine (Some was) None line found = ⊥
-ReadsLine (Some was) (Some now) line true = lines was ≡ line ∷ lines now
-ReadsLine (Some was) (Some now) line false = (was ≡ []) × (now ≡ [])
-
--- where a source tells: its first line has more than 140,000 bytes
-abbrev pub StartsLong : Option (List ℕ) → Type 0
-StartsLong None = ⊤
-StartsLong (Some was) = 140000 < line_length was
-
 -- how many line feeds these bytes have
 abbrev pub line_feeds : List ℕ → ℕ
 line_feeds [] = 0
@@ -54,27 +41,57 @@ line_feeds (b ∷ rest) = if is_line_feed b then line_feeds rest + 1 else line_f
 abbrev pub is_ended : List ℕ → Bool
 is_ended line = ends_with nat_eq line (10 ∷ [])
 
+-- where a source tells: the first of its lines was taken
+abbrev pub IsFirstLine : Option (List ℕ) → Option (List ℕ) → List ℕ → Type 0
+IsFirstLine None now line = ⊤
+IsFirstLine (Some was) None line = ⊥
+IsFirstLine (Some was) (Some now) line = lines was ≡ line ∷ lines now
+
+-- A line was read: it isn't too long, and only the last one has no line feed.
+pub record FindsLine (was now : Option (List ℕ)) (line : List ℕ) : Type 0 where
+  pub first : IsFirstLine was now line
+  pub consumed : Consumes was now line
+  pub short : line_length line ≤ longest_line
+  pub stored : length line ≤ longest_line + 1
+  pub feeds : is_ended line ≡ true → line_feeds line ≡ 1
+  pub ended : is_ended line ≡ false → IsAtEnd now
+
+-- nothing was left
+pub record FindsEnd (was now : Option (List ℕ)) : Type 0 where
+  pub was_ended : IsAtEnd was
+  pub ended : IsAtEnd now
+  pub consumed : Consumes was now []
+
+-- a line was read, or there was none
+abbrev pub ReadsLine : Option (List ℕ) → Option (List ℕ) → List ℕ → Bool → Type 0
+ReadsLine was now line true = FindsLine was now line
+ReadsLine was now line false = FindsEnd was now
+
+-- where a source tells: its first line is too long
+abbrev pub StartsLong : Option (List ℕ) → Type 0
+StartsLong None = ⊤
+StartsLong (Some was) = longest_line < line_length was
+
 -- What was taken from the source where no line was read: at most 140,001 bytes.
 pub record Took (was now : Option (List ℕ)) : Type 0 where
   pub taken : List ℕ
   pub consumed : Consumes was now taken
-  pub few : length taken ≤ 140001
+  pub few : length taken ≤ longest_line + 1
 
 -- the same, without a line feed
 pub record TookPart (was now : Option (List ℕ)) : Type 0 where
-  pub taken : List ℕ
-  pub consumed : Consumes was now taken
-  pub few : length taken ≤ 140001
-  pub part : line_feeds taken ≡ 0
+  pub took : Took was now
+  pub part : line_feeds took.taken ≡ 0
 
--- why no line was read: the source failed and counted it, the line is too long, or memory was refused
-abbrev pub HasLineReason : Option (List ℕ) → Option (List ℕ) → ℕ → ℕ → End → Type 0
-HasLineReason was now before after ReadFault = Rose before after × TookPart was now
-HasLineReason was now before after LongLine = StartsLong was × Took was now
-HasLineReason was now before after NoMemory = Took was now
-HasLineReason was now before after Finished = ⊥
-HasLineReason was now before after Usage = ⊥
-HasLineReason was now before after BadHeader = ⊥
-HasLineReason was now before after (BadFrame at rule) = ⊥
-HasLineReason was now before after DiskFault = ⊥
-HasLineReason was now before after WriteFault = ⊥
+-- why no line was read: the source failed, the line is too long, or memory was refused
+abbrev pub HasLineReason : Option (List ℕ) → Option (List ℕ) → LineFault → Type 0
+HasLineReason was now ReadFault = TookPart was now
+HasLineReason was now TooLong = StartsLong was × Took was now
+HasLineReason was now NoMemory = Took was now
+
+-- a source counts a fault where it failed, and nowhere else
+abbrev pub CountsRead : {T : Type 0} → ℕ → ℕ → Result T LineFault → Type 0
+CountsRead before now (Ok found) = now ≡ before
+CountsRead before now (Err ReadFault) = Rose before now
+CountsRead before now (Err TooLong) = now ≡ before
+CountsRead before now (Err NoMemory) = now ≡ before

@@ -1,214 +1,134 @@
--- What a whole run of the script comes to.
-use Rattle.std.specs.Prelude.{◌≡◌, ◌⊎◌, ◌≤◌, ◌<◌, ⊤, ℕ, nat_le, Bool, true, false, ◌||◌, ◌==◌, List, [], ◌∷◌, ◌++◌, length, take, codes, Option, Some, None, IfSome, string_bytes}
+-- What a whole run of the script comes to, in phases: the journal is mounted, lines are answered, and the last line is
+-- written.
+use Rattle.std.specs.Prelude.{◌≡◌, ◌⊎◌, ◌≤◌, ◌<◌, ⊤, ℕ, ◌+◌, nat_le, Bool, true, false, ◌||◌, ◌==◌, List, [], ◌∷◌, ◌++◌, length, take, codes, Option, Some, None, IfSome, Result, Ok, Err, string_bytes}
 use Rattle.std.specs.List.{flat_map, list_all}
 use Rattle.std.specs.Str.{bytes_eq}
 use Rattle.std.specs.Io.KnownBytes.{Appends, Consumes, IsAtEnd}
 use Rattle.std.specs.declared.string.String.{String}
 use Rattle.std.specs.declared.alloc.Global.{Global}
 use Rattle.fh_base.specs.Faults.{Rose}
-use Rattle.fh_disk.specs.Moments.{LeavesOnly}
+use Rattle.fh_base.specs.Ends.{Concludes}
+use Rattle.fh_base.specs.Limits.{longest_line}
+use Rattle.fh_base.specs.declared.ends.PlainEnd.{PlainEnd}
+use Rattle.fh_base.specs.declared.ends.PlainEnd.TheVariants.{Finished, Usage, ReadFault, DiskFault, WriteFault, LongLine, NoMemory, SpawnFault, DoorFault}
 use Rattle.fh_journal.specs.Mounting.{IsBeingMade}
 use Rattle.fh_hub.specs.Hub.{StandsForHistory}
 use Rattle.fh_hub.specs.Mounting.{MountsHistory}
 use Rattle.fh_hub.specs.Replay.{Entry, IsLegal}
 use Rattle.fh_hub.specs.declared.faults.HubFault.{HubFault}
-use Rattle.fh_hub.specs.declared.faults.HubFault.TheVariants as mounts
-use Rattle.fh_script.specs.Lines.{lines, line_length, line_feeds}
+use Rattle.fh_script.specs.Lines.{IsFirstLine, StartsLong, Took, lines, line_length, line_feeds}
 use Rattle.fh_script.specs.Machine.{answer_line, printed, run}
-use Rattle.fh_script.specs.Session.{StandsEither}
-use Rattle.fh_script.specs.Ends.{code_of, fails_on_disk, fails_reading, fails_writing, last_line}
-use Rattle.fh_script.specs.declared.ends.End.{End}
-use Rattle.fh_script.specs.declared.ends.End.TheVariants.{Finished, Usage, BadHeader, BadFrame, ReadFault, DiskFault, WriteFault, LongLine, NoMemory}
+use Rattle.fh_script.specs.Outside.{Counts, Imaging, Outside}
+use Rattle.fh_script.specs.Ends.{code_of, last_line}
 
 -- `script <journal> <checkpoint>`
 abbrev pub is_script : List (String Global) → Bool
 is_script (verb ∷ journal ∷ checkpoint ∷ []) = bytes_eq (string_bytes verb) (codes "script")
 is_script _ = false
 
--- what the three objects tell at one moment, and their counts of faults
-pub record Outside : Type 0 where
-  pub left : Option (List ℕ)
-  pub read_faults : ℕ
-  pub written : Option (List ℕ)
-  pub write_faults : ℕ
-  pub told : Option (List ℕ)
-  pub disk_faults : ℕ
-
-abbrev pub outside : Option (List ℕ) → ℕ → Option (List ℕ) → ℕ → Option (List ℕ) → ℕ → Outside
-outside left read_faults written write_faults told disk_faults = record {
-  left = left;
-  read_faults = read_faults;
-  written = written;
-  write_faults = write_faults;
-  told = told;
-  disk_faults = disk_faults;
-}
-
--- where a source tells, these are its lines
-abbrev pub HasLines : Option (List ℕ) → List (List ℕ) → Type 0
-HasLines None all = ⊤
-HasLines (Some bytes) all = lines bytes ≡ all
+-- where a source tells, it gave these lines, and has the others left
+abbrev pub Reads : Option (List ℕ) → Option (List ℕ) → List (List ℕ) → Type 0
+Reads None now done = ⊤
+Reads (Some was) None done = ⊥
+Reads (Some was) (Some now) done = lines was ≡ done ++ lines now
 
 abbrev pub is_short_line : List ℕ → Bool
-is_short_line line = nat_le (line_length line) 140000
-
--- the file stands for a first part of this history, at least for the one that it begins with
-pub record StandsForPart (opening history : List Entry) (file : List ℕ) : Type 0 where
-  pub front : List Entry
-  pub rest : List Entry
-  pub whole : history ≡ opening ++ (front ++ rest)
-  pub stands : StandsForHistory (opening ++ front) file
-
--- that each image of a disk at any moment since a run began is one that it had then, or has some property
-abbrev pub Imaging : Type 1
-Imaging = (List ℕ → Type 0) → Type 0
-
--- that of a disk
-abbrev pub imaging : {D : Type 0} → (D → Option (List ℕ)) → (D → List ℕ → Type 0) → (D → ℕ) → (D → ℕ → List ℕ → Type 0) → D → D → Imaging
-imaging told may_leave moment left_since old new P =
-    IfSome (told old) (λ _. LeavesOnly moment left_since old new (λ c. may_leave old c ⊎ P c))
-
--- the same where each image at the beginning has the property too
-abbrev pub imaging_lines : {D : Type 0} → (D → Option (List ℕ)) → (D → ℕ) → (D → ℕ → List ℕ → Type 0) → D → D → Imaging
-imaging_lines told moment left_since old new P = IfSome (told old) (λ _. LeavesOnly moment left_since old new P)
+is_short_line line = nat_le (line_length line) longest_line
 
 -- the bytes of these lines
 abbrev pub joined : List (List ℕ) → List ℕ
 joined lines = flat_map (λ line. line) lines
 
--- The journal stood for this history, which is legal. These lines were read and none is too long, and at most 140,001
--- bytes behind them were; the other lines are left. Their answers were written, and then more.
-pub record Wrote (was now : Outside) (opening : List Entry) (done more : List (List ℕ)) (behind : List ℕ) : Type 0 where
+-- the file stands for this history with a first part of these entries behind it
+pub record StandsForPart (opening entries : List Entry) (file : List ℕ) : Type 0 where
+  pub front : List Entry
+  pub rest : List Entry
+  pub whole : entries ≡ front ++ rest
+  pub stands : StandsForHistory (opening ++ front) file
+
+-- The journal stood for a legal history. These lines were read, and have left the rest; none is too long; and their
+-- answers were written.
+pub record Answered (was : Outside) (left written : Option (List ℕ)) : Type 0 where
+  pub opening : List Entry
   pub legal : IsLegal opening
   pub stood : IfSome was.told (StandsForHistory opening)
-  pub read : HasLines was.left (done ++ more)
+  pub done : List (List ℕ)
+  pub read : Reads was.left left done
+  pub consumed : Consumes was.left left (joined done)
   pub short : list_all is_short_line done ≡ true
-  pub taken : List ℕ
-  pub consumed : Consumes was.left now.left (joined done ++ taken)
-  pub few : length taken ≤ 140001
-  pub texts : Appends was.written now.written ((run opening done).written ++ behind)
+  pub texts : Appends was.written written (run opening done).written
 
--- the same, and the journal stands for that history with the lines' entries behind it
-pub record Answered (was now : Outside) (leaves : Imaging) (more : List (List ℕ)) (behind : List ℕ) : Type 0 where
-  pub opening : List Entry
-  pub done : List (List ℕ)
-  pub wrote : Wrote was now opening done more behind
-  pub stands : IfSome now.told (StandsForHistory (opening ++ (run opening done).entries))
-  pub images : leaves (StandsForPart opening (opening ++ (run opening done).entries))
+-- these lines, and one behind them where there is one
+abbrev pub with_line : List (List ℕ) → Option (List ℕ) → List (List ℕ)
+with_line done None = done
+with_line done (Some line) = done ++ line ∷ []
 
--- The same of as many lines as the source gave line feeds.
-pub record AnsweredAll (was now : Outside) (leaves : Imaging) (behind : List ℕ) : Type 0 where
-  pub more : List (List ℕ)
-  pub answered : Answered was now leaves more behind
-  pub feeds : line_feeds (joined answered.done ++ answered.wrote.taken) ≡ length answered.done
+-- what was taken from a source is this line alone, where there is one
+abbrev pub TakesLine : Option (List ℕ) → Option (List ℕ) → List ℕ → Option (List ℕ) → Type 0
+TakesLine left now taken None = ⊤
+TakesLine left now taken (Some line) = (taken ≡ line) × IsFirstLine left now line
 
--- The same of lines behind which one more was read and nothing else: its entries may stand in the journal too.
-pub record AnsweredBefore (was now : Outside) (leaves : Imaging) (behind : List ℕ) : Type 0 where
-  pub opening : List Entry
-  pub done : List (List ℕ)
-  pub line : List ℕ
-  pub more : List (List ℕ)
-  pub wrote : Wrote was now opening done (line ∷ more) behind
-  pub only : wrote.taken ≡ line
-  pub stands :
-      let s = run opening done in
-      IfSome now.told (StandsEither (opening ++ s.entries) (answer_line s.world s.now line).entries)
-  pub images :
-      let s = run opening done in
-      leaves (StandsForPart opening ((opening ++ s.entries) ++ (answer_line s.world s.now line).entries))
+-- Behind the answered lines at most 140,001 bytes were taken: the next line alone, where there is one. The journal
+-- stands for the history with the entries of the answered lines behind it, and of the line that was done behind them,
+-- if there is one; a crash leaves a first part of the history with the next line's entries too.
+pub record Ran (was now : Outside) (leaves : Imaging) (next done : Option (List ℕ)) : Type 0 where
+  pub left : Option (List ℕ)
+  pub lines : Answered was left now.written
+  pub took : Took left now.left
+  pub only : TakesLine left now.left took.taken next
+  pub stands : IfSome now.told
+      (StandsForHistory (lines.opening ++ (run lines.opening (with_line lines.done done)).entries))
+  pub images : leaves (StandsForPart lines.opening (run lines.opening (with_line lines.done next)).entries)
 
--- The same of lines behind which one more was done, and its answer wasn't written.
-pub record Unwritten (was now : Outside) (leaves : Imaging) (behind : List ℕ) : Type 0 where
-  pub opening : List Entry
-  pub done : List (List ℕ)
-  pub line : List ℕ
-  pub more : List (List ℕ)
-  pub wrote : Wrote was now opening done (line ∷ more) behind
-  pub only : wrote.taken ≡ line
-  pub stands : IfSome now.told (StandsForHistory (opening ++ (run opening (done ++ line ∷ [])).entries))
-  pub images : leaves (StandsForPart opening (opening ++ (run opening (done ++ line ∷ [])).entries))
-
--- The same of lines whose next answer was written in part alone, though its entries are in the journal.
+-- the next line was done, and its answer was written in part alone
 pub record CutOff (was now : Outside) (leaves : Imaging) : Type 0 where
-  pub opening : List Entry
-  pub done : List (List ℕ)
+  pub before : Option (List ℕ)
   pub line : List ℕ
-  pub more : List (List ℕ)
-  pub written : ℕ
-  pub part : written < length (printed (answer_line (run opening done).world (run opening done).now line).text)
-  pub wrote : Wrote was now opening done (line ∷ more)
-      (take written (printed (answer_line (run opening done).world (run opening done).now line).text))
-  pub only : wrote.taken ≡ line
-  pub stands : IfSome now.told (StandsForHistory (opening ++ (run opening (done ++ line ∷ [])).entries))
-  pub images : leaves (StandsForPart opening (opening ++ (run opening (done ++ line ∷ [])).entries))
+  pub ran : Ran was (record now { written = before }) leaves (Some line) (Some line)
+  pub size : ℕ
+  pub part :
+      let s = run ran.lines.opening ran.lines.done in
+      size < length (printed (answer_line s.world s.now line).text)
+  pub cut :
+      let s = run ran.lines.opening ran.lines.done in
+      Appends before now.written (take size (printed (answer_line s.world s.now line).text))
 
--- the journal isn't mounted: nothing was taken from the source, and the bytes are what this fault leaves
-pub record Unmounted (was now : Outside) (leaves : Imaging) (fault : HubFault) (behind : List ℕ) : Type 0 where
+-- why a run ends that has a plain end, and what stands then
+abbrev pub HasPlainReason : Outside → Outside → Imaging → PlainEnd → Type 0
+HasPlainReason was now leaves Finished = (it : Ran was now leaves None None) × (IsAtEnd it.left × IsAtEnd now.left)
+HasPlainReason was now leaves Usage = now ≡ was
+HasPlainReason was now leaves ReadFault =
+    (it : Ran was now leaves None None) × (line_feeds (joined it.lines.done ++ it.took.taken) ≡ length it.lines.done)
+HasPlainReason was now leaves DiskFault =
+    (line : List ℕ) × (Ran was now leaves (Some line) None ⊎ Ran was now leaves (Some line) (Some line))
+HasPlainReason was now leaves WriteFault = CutOff was now leaves
+HasPlainReason was now leaves LongLine = (it : Ran was now leaves None None) × StartsLong it.left
+HasPlainReason was now leaves NoMemory =
+    Ran was now leaves None None ⊎ ((line : List ℕ) × Ran was now leaves (Some line) (Some line))
+HasPlainReason was now leaves SpawnFault = ⊥
+HasPlainReason was now leaves DoorFault = ⊥
+
+-- the journal isn't mounted: no line was read or answered, and the bytes are what this fault leaves
+pub record Unmounted (was now : Outside) (leaves : Imaging) (fault : HubFault) : Type 0 where
   pub left : now.left ≡ was.left
+  pub written : now.written ≡ was.written
   pub bytes : MountsHistory was.told now.told (Some fault)
-  pub texts : Appends was.written now.written behind
   pub images : leaves (λ c. IfSome was.told (λ file. IsBeingMade file c))
 
--- where a source tells, the next line is too long
-abbrev pub IsLongNext : Option (List ℕ) → List (List ℕ) → Type 0
-IsLongNext None more = ⊤
-IsLongNext (Some bytes) [] = ⊥
-IsLongNext (Some bytes) (line ∷ more) = 140000 < line_length line
+-- why a run ends
+abbrev pub HasReason : Outside → Outside → Imaging → Result PlainEnd HubFault → Type 0
+HasReason was now leaves (Ok end) = HasPlainReason was now leaves end
+HasReason was now leaves (Err fault) = Unmounted was now leaves fault
 
--- why a run ends whose journal was mounted, and what it leaves, with this text behind the answers
-abbrev pub HasLinesReason : Outside → Outside → Imaging → List ℕ → End → Type 0
-HasLinesReason was now leaves behind Finished = Answered was now leaves [] behind × IsAtEnd now.left
-HasLinesReason was now leaves behind Usage = ⊥
-HasLinesReason was now leaves behind BadHeader = ⊥
-HasLinesReason was now leaves behind (BadFrame at rule) = ⊥
-HasLinesReason was now leaves behind ReadFault = Rose was.read_faults now.read_faults × AnsweredAll was now leaves behind
-HasLinesReason was now leaves behind DiskFault = Rose was.disk_faults now.disk_faults × AnsweredBefore was now leaves behind
-HasLinesReason was now leaves behind WriteFault = Rose was.write_faults now.write_faults × CutOff was now leaves
-HasLinesReason was now leaves behind LongLine = (more : List (List ℕ)) × (IsLongNext was.left more × Answered was now leaves more behind)
-HasLinesReason was now leaves behind NoMemory = ((more : List (List ℕ)) × Answered was now leaves more behind) ⊎ Unwritten was now leaves behind
-
--- the same of any run
-abbrev pub HasReason : Outside → Outside → Imaging → List ℕ → End → Type 0
-HasReason was now leaves behind Finished = HasLinesReason was now leaves behind Finished
-HasReason was now leaves behind Usage = Appends was.written now.written behind × (now.told ≡ was.told)
-HasReason was now leaves behind BadHeader = Unmounted was now leaves mounts.BadHeader behind
-HasReason was now leaves behind (BadFrame at rule) = Unmounted was now leaves (mounts.BadFrame at rule) behind
-HasReason was now leaves behind ReadFault = HasLinesReason was now leaves behind ReadFault
-HasReason was now leaves behind DiskFault =
-    (Rose was.disk_faults now.disk_faults × Unmounted was now leaves mounts.DiskFault behind) ⊎ HasLinesReason was now leaves behind DiskFault
-HasReason was now leaves behind WriteFault = HasLinesReason was now leaves behind WriteFault
-HasReason was now leaves behind LongLine = HasLinesReason was now leaves behind LongLine
-HasReason was now leaves behind NoMemory = Unmounted was now leaves mounts.NoMemory behind ⊎ HasLinesReason was now leaves behind NoMemory
-
--- the ends of a run whose journal is mounted
-abbrev pub IsOfLines : End → Type 0
-IsOfLines Usage = ⊥
-IsOfLines BadHeader = ⊥
-IsOfLines (BadFrame at rule) = ⊥
-IsOfLines Finished = ⊤
-IsOfLines ReadFault = ⊤
-IsOfLines DiskFault = ⊤
-IsOfLines WriteFault = ⊤
-IsOfLines LongLine = ⊤
-IsOfLines NoMemory = ⊤
-
--- no object has counted a fault but the one that failed at this end
-pub record CountsOwn (was now : Outside) (end : End) : Type 0 where
-  pub reading : fails_reading end ≡ false → now.read_faults ≡ was.read_faults
-  pub disk : fails_on_disk end ≡ false → now.disk_faults ≡ was.disk_faults
-  pub writing : fails_writing end ≡ false → now.write_faults ≡ was.write_faults
-
--- A run that has this end: its last line stands behind the answers, cut only where the sink failed and counted it. No
--- object has counted another fault.
+-- A run that has this end: its last line stands behind all that was written before, cut only where the sink failed.
 pub record EndsBy (was now : Outside) (leaves : Imaging) (code : ℕ) : Type 0 where
-  pub end : End
+  pub end : Result PlainEnd HubFault
   pub status : code ≡ code_of end
-  pub written : ℕ
-  pub whole : written < length (last_line end) → Rose was.write_faults now.write_faults
-  pub reason : HasReason was now leaves (take written (last_line end)) end
-  pub reading : fails_reading end ≡ false → now.read_faults ≡ was.read_faults
-  pub disk : fails_on_disk end ≡ false → now.disk_faults ≡ was.disk_faults
-  pub writing : fails_writing end ≡ false → length (last_line end) ≤ written → now.write_faults ≡ was.write_faults
+  pub before : Option (List ℕ)
+  pub faults : ℕ
+  pub reason : HasReason was (record now { written = before; write_faults = faults }) leaves end
+  pub counts : Counts was (record now { written = before; write_faults = faults }) (code_of end)
+  pub last : Concludes before now.written (last_line end) faults now.write_faults
 
 -- the statuses at which no call on the journal's disk has left anything in doubt
 abbrev pub is_certain : ℕ → Bool
@@ -233,4 +153,6 @@ pub record NoneRose (was now : Outside) : Type 0 where
 
 -- where the bytes are told, a crash leaves whatever history they stand for
 abbrev pub SurvivesCrash : Option (List ℕ) → (List ℕ → Type 0) → Type 0
-SurvivesCrash told images = IfSome told (λ file. (history : List Entry) (c : List ℕ) → StandsForHistory history file → images c → StandsForHistory history c)
+SurvivesCrash told images = IfSome told
+    (λ file. (history : List Entry) (c : List ℕ) → StandsForHistory history file → images c
+    → StandsForHistory history c)

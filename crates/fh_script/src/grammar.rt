@@ -1,25 +1,25 @@
 // Reading a line.
-ghost use Rattle.std.specs.Prelude.{◌≡◌, ◌≢◌, ◌<◌, [], length, slice_index_or, MatchResult, IfOk};
-ghost use Rattle.fh_script.specs.declared.faults.LineFault.TheVariants.{BadCount};
+ghost use Rattle.std.specs.Prelude.{◌≡◌, ◌≢◌, ◌<◌, [], length, slice_index_or, MatchResult};
+ghost use Rattle.fh_base.specs.Answers.{Gives};
 ghost use Rattle.fh_script.specs.Grammar.{line_of, line_of_words, at_line, queue_line, put_line, take_line, peek_line, update_line, delete_line, clear_line, where_line};
-ghost use Rattle.fh_script.specs.Reading.{Gives, texts};
+ghost use Rattle.fh_script.specs.Words.{texts};
 
-use crate::faults::{LineFault, Stop};
+use crate::faults::WordFault;
 use crate::forms::{lifetime, number, number_or, text};
 use crate::lines::line_text;
 use crate::words::words_of;
-use fh_base::{NoMemory, utf8_text};
+use fh_base::utf8_text;
 use fh_event::Command;
 use std::alloc::Global;
 
-/// What a line stands for.
+/// What a line asks for.
 #[derive(Debug, Drop)]
-pub enum Line {
+pub enum LineAsk {
     /// It has no words.
     Blank,
     /// `at`: the moment of the lines behind it, in milliseconds.
     At { ms: u64 },
-    Command(Command),
+    Ask(Command),
 }
 
 /// In seconds: a message is visible at once.
@@ -33,26 +33,22 @@ const DEFAULT_HOLD: u64 = 30;
 
 /// Reads the bytes of a line, with or without its line feed.
 #[tactic(auto, unfolding(crate::specs::Grammar::line_of))]
-pub fn read_command(alloc: Global, line: &[u8]) -> Result<Result<Line, LineFault>, NoMemory>
-    ensures { IfOk result (λ answer. answer ≡ line_of line.now) }
+pub fn line_ask(alloc: Global, line: &[u8]) -> Result<LineAsk, WordFault>
+    ensures { Gives WordFault.NoMemory result (line_of line.now) }
 {
     let Some(text) = utf8_text(line_text(line)) else {
-        return Ok(Err(LineFault::BadText));
+        return Err(WordFault::BadText);
     };
     let words = words_of(alloc, text)?;
-    match read_words(alloc, &words) {
-        Ok(line) => Ok(Ok(line)),
-        Err(Stop::Fault(fault)) => Ok(Err(fault)),
-        Err(Stop::NoMemory) => Err(NoMemory),
-    }
+    read_words(alloc, &words)
 }
 
 #[tactic(auto, unfolding(crate::specs::Grammar::line_of_words))]
-fn read_words(alloc: Global, words: &[&str]) -> Result<Line, Stop>
-    ensures { Gives result (line_of_words (texts words.now)) }
+fn read_words(alloc: Global, words: &[&str]) -> Result<LineAsk, WordFault>
+    ensures { Gives WordFault.NoMemory result (line_of_words (texts words.now)) }
 {
     let [verb, words @ ..] = words else {
-        return Ok(Line::Blank);
+        return Ok(LineAsk::Blank);
     };
     match *verb {
         "at" => read_at(words),
@@ -64,35 +60,35 @@ fn read_words(alloc: Global, words: &[&str]) -> Result<Line, Stop>
         "delete" => read_delete(alloc, words),
         "clear" => read_clear(alloc, words),
         "where" => read_where(words),
-        _ => Err(Stop::Fault(LineFault::BadWord)),
+        _ => Err(WordFault::BadWord),
     }
 }
 
 #[tactic(auto, unfolding(crate::specs::Grammar::at_line))]
-fn read_at(words: &[&str]) -> Result<Line, Stop>
-    ensures { Gives result (at_line (texts words.now)) }
+fn read_at(words: &[&str]) -> Result<LineAsk, WordFault>
+    ensures { Gives WordFault.NoMemory result (at_line (texts words.now)) }
 {
     counted(words, 1)?;
     let ms = number(word(words, 0))?;
-    Ok(Line::At { ms })
+    Ok(LineAsk::At { ms })
 }
 
 #[tactic(auto, unfolding(crate::specs::Grammar::queue_line))]
-fn read_queue(alloc: Global, words: &[&str]) -> Result<Line, Stop>
-    ensures { Gives result (queue_line (texts words.now)) }
+fn read_queue(alloc: Global, words: &[&str]) -> Result<LineAsk, WordFault>
+    ensures { Gives WordFault.NoMemory result (queue_line (texts words.now)) }
 {
     counted(words, 1)?;
-    Ok(Line::Command(Command::MakeQueue {
+    Ok(LineAsk::Ask(Command::MakeQueue {
         queue: text(alloc, word(words, 0))?,
     }))
 }
 
 #[tactic(auto, unfolding(crate::specs::Grammar::put_line))]
-fn read_put(alloc: Global, words: &[&str]) -> Result<Line, Stop>
-    ensures { Gives result (put_line (texts words.now)) }
+fn read_put(alloc: Global, words: &[&str]) -> Result<LineAsk, WordFault>
+    ensures { Gives WordFault.NoMemory result (put_line (texts words.now)) }
 {
     counted(words, 4)?;
-    Ok(Line::Command(Command::Put {
+    Ok(LineAsk::Ask(Command::Put {
         queue: text(alloc, word(words, 0))?,
         delay: number_or(word(words, 1), DEFAULT_DELAY)?,
         ttl: lifetime(word(words, 2))?,
@@ -101,11 +97,11 @@ fn read_put(alloc: Global, words: &[&str]) -> Result<Line, Stop>
 }
 
 #[tactic(auto, unfolding(crate::specs::Grammar::take_line))]
-fn read_take(alloc: Global, words: &[&str]) -> Result<Line, Stop>
-    ensures { Gives result (take_line (texts words.now)) }
+fn read_take(alloc: Global, words: &[&str]) -> Result<LineAsk, WordFault>
+    ensures { Gives WordFault.NoMemory result (take_line (texts words.now)) }
 {
     counted(words, 3)?;
-    Ok(Line::Command(Command::Take {
+    Ok(LineAsk::Ask(Command::Take {
         queue: text(alloc, word(words, 0))?,
         count: number_or(word(words, 1), DEFAULT_COUNT)?,
         hold: number_or(word(words, 2), DEFAULT_HOLD)?,
@@ -113,25 +109,25 @@ fn read_take(alloc: Global, words: &[&str]) -> Result<Line, Stop>
 }
 
 #[tactic(auto, unfolding(crate::specs::Grammar::peek_line))]
-fn read_peek(alloc: Global, words: &[&str]) -> Result<Line, Stop>
-    ensures { Gives result (peek_line (texts words.now)) }
+fn read_peek(alloc: Global, words: &[&str]) -> Result<LineAsk, WordFault>
+    ensures { Gives WordFault.NoMemory result (peek_line (texts words.now)) }
 {
     counted(words, 2)?;
-    Ok(Line::Command(Command::Peek {
+    Ok(LineAsk::Ask(Command::Peek {
         queue: text(alloc, word(words, 0))?,
         count: number_or(word(words, 1), DEFAULT_COUNT)?,
     }))
 }
 
 #[tactic(auto, unfolding(crate::specs::Grammar::update_line))]
-fn read_update(alloc: Global, words: &[&str]) -> Result<Line, Stop>
-    ensures { Gives result (update_line (texts words.now)) }
+fn read_update(alloc: Global, words: &[&str]) -> Result<LineAsk, WordFault>
+    ensures { Gives WordFault.NoMemory result (update_line (texts words.now)) }
 {
     let has_text = words.len() == 5;
     if !has_text {
         counted(words, 4)?;
     }
-    Ok(Line::Command(Command::Update {
+    Ok(LineAsk::Ask(Command::Update {
         queue: text(alloc, word(words, 0))?,
         number: number(word(words, 1))?,
         receipt: number(word(words, 2))?,
@@ -145,11 +141,11 @@ fn read_update(alloc: Global, words: &[&str]) -> Result<Line, Stop>
 }
 
 #[tactic(auto, unfolding(crate::specs::Grammar::delete_line))]
-fn read_delete(alloc: Global, words: &[&str]) -> Result<Line, Stop>
-    ensures { Gives result (delete_line (texts words.now)) }
+fn read_delete(alloc: Global, words: &[&str]) -> Result<LineAsk, WordFault>
+    ensures { Gives WordFault.NoMemory result (delete_line (texts words.now)) }
 {
     counted(words, 3)?;
-    Ok(Line::Command(Command::Delete {
+    Ok(LineAsk::Ask(Command::Delete {
         queue: text(alloc, word(words, 0))?,
         number: number(word(words, 1))?,
         receipt: number(word(words, 2))?,
@@ -157,32 +153,32 @@ fn read_delete(alloc: Global, words: &[&str]) -> Result<Line, Stop>
 }
 
 #[tactic(auto, unfolding(crate::specs::Grammar::clear_line))]
-fn read_clear(alloc: Global, words: &[&str]) -> Result<Line, Stop>
-    ensures { Gives result (clear_line (texts words.now)) }
+fn read_clear(alloc: Global, words: &[&str]) -> Result<LineAsk, WordFault>
+    ensures { Gives WordFault.NoMemory result (clear_line (texts words.now)) }
 {
     counted(words, 1)?;
-    Ok(Line::Command(Command::Clear {
+    Ok(LineAsk::Ask(Command::Clear {
         queue: text(alloc, word(words, 0))?,
     }))
 }
 
 #[tactic(auto, unfolding(crate::specs::Grammar::where_line))]
-fn read_where(words: &[&str]) -> Result<Line, Stop>
-    ensures { Gives result (where_line (texts words.now)) }
+fn read_where(words: &[&str]) -> Result<LineAsk, WordFault>
+    ensures { Gives WordFault.NoMemory result (where_line (texts words.now)) }
 {
     counted(words, 1)?;
-    Ok(Line::Command(Command::Locate {
+    Ok(LineAsk::Ask(Command::Locate {
         number: number(word(words, 0))?,
     }))
 }
 
 // Whether there are so many words.
-fn counted(words: &[&str], count: usize) -> Result<(), LineFault>
+fn counted(words: &[&str], count: usize) -> Result<(), WordFault>
     ensures { MatchResult result (λ _. length words.now ≡ count)
-        (λ fault. (length words.now ≢ count) × (fault ≡ BadCount)) }
+        (λ fault. (length words.now ≢ count) × (fault ≡ WordFault.BadCount)) }
 {
     if words.len() != count {
-        return Err(LineFault::BadCount);
+        return Err(WordFault::BadCount);
     }
     Ok(())
 }

@@ -5,10 +5,10 @@ use std::test::Fail;
 // A line as a test writes it: the variant's name and its fields in order, or the fault.
 fn shown(rt: &HostRuntime, line: &[u8]) -> Result<String, Fail> {
     let alloc = rt.alloc();
-    let command = match read_command(alloc, line)? {
-        Ok(Line::Blank) => return Ok(String::from_str(alloc, "blank")?),
-        Ok(Line::At { ms }) => return Ok(format!(in alloc; "at {ms}")?),
-        Ok(Line::Command(command)) => command,
+    let command = match line_ask(alloc, line) {
+        Ok(LineAsk::Blank) => return Ok(String::from_str(alloc, "blank")?),
+        Ok(LineAsk::At { ms }) => return Ok(format!(in alloc; "at {ms}")?),
+        Ok(LineAsk::Ask(command)) => command,
         Err(fault) => return Ok(format!(in alloc; "{fault:?}")?),
     };
     let shown = match command {

@@ -1,18 +1,17 @@
 //! The script: lines are read, answered over the journal, and their answers written.
 //!
-//! Promised to the layer above: `script` is the whole command. Each line comes to what `answer_line` of
-//! specs/Machine.antt says: its answer, its entries or none, and the world and the moment behind it. The
-//! answers stand in the sink in the order of the lines, and the journal stands for the history that it
-//! had with the entries behind it. Where the disk or the sink fails at a line, no byte behind it was
-//! read. Status 0 comes only at the end of the source and where no call failed, and each other status
-//! only for its reason (`EndsBy` of specs/Script.antt). At statuses 0, 5, 7 and 8 a crash leaves what the
-//! file stands for. The checkpoint is left alone.
+//! Promised to the layer above: `script` is the whole command, in three phases. The journal is mounted; then
+//! each line comes to what `answer_line` says, its answer in the sink and its entries in the journal, in the
+//! order of the lines; then the last line is written. Where the disk or the sink fails at a line, no byte
+//! behind it was read. Each status comes only for its reason, and says which lines are done and what a crash
+//! may leave; only the object that failed has counted a fault. The checkpoint is left alone.
 //!
-//! `read_command` reads one line into what it stands for, or its first fault, exactly as `line_of` of
-//! specs/Grammar.antt says. A text that an answer prints is one word of a line and is read as the same text
-//! (`printed_texts_are_read`).
+//! `line_ask` reads one line into what it asks for, or its first fault. A text that an answer prints is one
+//! word of a line and is read as the same text (`printed_texts_are_read`). Read specs/Machine.antt first, what
+//! a line comes to, and then specs/Script.antt, what a run comes to (`EndsBy`).
 #![tactic(auto)]
 
+mod answerer;
 mod ends;
 mod faults;
 mod forms;
@@ -20,12 +19,10 @@ mod grammar;
 mod laws;
 mod lines;
 mod running;
-mod session;
 mod words;
 
-pub use ends::End;
-pub use faults::LineFault;
-pub use grammar::{Line, read_command};
+pub use faults::WordFault;
+pub use grammar::{LineAsk, line_ask};
 pub use laws::printed_texts_are_read;
 pub use running::script;
 

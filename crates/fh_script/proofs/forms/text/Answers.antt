@@ -13,10 +13,10 @@ pub returns-in-Ok-Owned : goal.returns-in-Ok-Owned
 returns-in-Ok-Owned c =
     let told = rw c.in-Ok-Owned.field-0-is at c.in-Ok-Owned.ensures in
     text_of-decoded _ _ (search rules) (c.percent_decode.ensures.bytes ∙ ap percent_decode c.as_bytes.ensures.value) _
-    told.ok_only_if_utf8 (c.new-in-Ok-Owned.ensures ∙ told.value)
+    told.ok_only_if_utf8 (c.new.ensures ∙ told.value)
 
 pub returns-in-Err-Utf8 : goal.returns-in-Err-Utf8
-returns-in-Err-Utf8 c =
+returns-in-Err-Utf8 c = λ other.
     let told = rw c.in-Err-Utf8.field-0-is at c.in-Err-Utf8.ensures in
     text_of-bad _ _ (search rules) (c.percent_decode.ensures.bytes ∙ ap percent_decode c.as_bytes.ensures.value)
     (λ utf8. let memory = told.utf8 utf8 in cc)

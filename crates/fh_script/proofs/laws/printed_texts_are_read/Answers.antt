@@ -9,4 +9,5 @@ returns-clause-word c = one_word c.args.text.now
 
 pub returns-clause-text : goal.returns-clause-text
 returns-clause-text c =
-    read_again c.args.text.now (All-from_get_or IsByte c.args.text.now 0 (λ i within. omega (arith, c.type_inv.text i))) c.utf8.text
+    read_again c.args.text.now
+    (All-from_get_or IsByte c.args.text.now 0 (λ i within. omega (arith, c.type_inv.text i))) c.utf8.text

@@ -8,5 +8,6 @@ returns c =
     map_from_collect _ c.collect.ensures.ran
     (YieldsList-from_filter _ (λ (word : List ℕ). not (length word == 0))
     (YieldsList-at c.filter.ensures.source
-    (YieldsList-from_str_split 32 c.args.text.now (lit< tt) c.split.ensures.text c.split.ensures.has_more c.split.ensures.pattern))
+    (YieldsList-from_str_split 32 c.args.text.now
+    (lit< tt) c.split.ensures.text c.split.ensures.has_more c.split.ensures.pattern))
     c.filter.ensures.closure (λ x r q k. search (rules, tests)))
