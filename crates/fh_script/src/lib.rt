@@ -24,7 +24,7 @@ mod words;
 pub use faults::WordFault;
 pub use grammar::{LineAsk, line_ask};
 pub use laws::printed_texts_are_read;
-pub use running::script;
+pub use running::{is_script, script};
 
 #[cfg(test)]
 mod grammar_tests;

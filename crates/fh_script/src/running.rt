@@ -57,7 +57,8 @@ pub fn script<S: Source, O: Sink, J: Disk, K: Disk>(
     }
 }
 
-fn is_script(words: &[String]) -> bool
+/// Whether the words are those of this command: its name, the journal's path and the checkpoint's.
+pub fn is_script(words: &[String]) -> bool
     ensures { result ≡ is_script words.now }
 {
     match words {

@@ -1,24 +1,29 @@
 //! `fnhost`: makes the real objects, and hands the words of the command line to the top call of its command.
 //!
-//! Promised: the words are the arguments behind the program's name. Those of a script name the journal's file
-//! and the checkpoint's, that of a check the app's folder. The exit status is the top call's, unless
+//! Promised: the words are the arguments behind the program's name, and choose the command before any file is
+//! named. Those of a script name the journal's file and the checkpoint's, that of a check the app's folder.
+//! Words that are no command end with status 2. The exit status is the top call's, unless
 //! something is missing before it: 9 where memory is refused, 6 where the null device can't be opened. What
 //! a command does is the contract of `fh_script::script` or `fh_app::check`, over objects that tell nothing.
 //! No file is opened before the descriptors of the three standard streams are taken, so none can stand for a
 //! stream that was closed.
 #![tactic(auto)]
 
-ghost use Rattle.std.specs.Prelude.{◌≡◌, ◌≢◌, ◌==◌, [], not, drop, slice_get, IfOk, IfErr, OnErr, IsErr, string_bytes};
+ghost use Rattle.std.specs.Prelude.{◌≡◌, ◌≢◌, ◌==◌, [], not, drop, slice_get, is_some, IfOk, IfErr, OnErr, IsErr, string_bytes};
 ghost use Rattle.std.specs.Process.{exit_status};
-ghost use Rattle.fh_script.specs.Script.{is_script};
+ghost use Rattle.fh_base.specs.Ends.{Concludes, plain_line};
+ghost use Rattle.fh_base.specs.declared.ends.PlainEnd.TheVariants.{Usage};
+ghost use Rattle.fh_script.specs.Script.{is_script as is_script_lem};
 ghost use Rattle.fh_app.specs.Check.{is_check as is_check_lem};
-ghost use Rattle.fnhost.specs.Words.{is_command, path_of};
+ghost use Rattle.fnhost.specs.Words.{command_of, path_of};
 ghost use Rattle.fnhost.specs.Ends.{unready_code};
 
 use fh_app::{PathFolder, check, is_check};
-use fh_base::{NoMemory, Sink, Source, Status, StreamSink, StreamSource};
+use fh_base::{
+    NoMemory, PlainEnd, Sink, Source, Status, StreamSink, StreamSource, write_last_line,
+};
 use fh_disk::FileDisk;
-use fh_script::script;
+use fh_script::{is_script, script};
 use std::alloc::Global;
 use std::fs::File;
 use std::io::ErrorKind;
@@ -31,6 +36,13 @@ enum Unready {
     NoMemory,
     /// The null device can't be opened, so a file might take the descriptor of a closed stream.
     NoNullDevice,
+}
+
+/// The commands of the program.
+#[derive(Clone, Copy, Debug, PartialEq, Eq)]
+enum ProgramCommand {
+    Check,
+    Script,
 }
 
 /// Handles on the null device, which take the descriptors of standard streams that were closed. A closed
@@ -123,15 +135,38 @@ fn behind_the_name(arguments: &[String]) -> &[String]
     }
 }
 
-// Runs the command of the words over the real objects.
+// Runs the command of the words over the real objects. Only a command's own files are named.
 fn run(rt: &HostRuntime, alloc: Global, words: &[String]) -> Result<Status, NoMemory>
-    ensures usage { IfOk result (λ status. (status.code == 2) ≡ not (is_command words.now)) }
+    ensures usage { IfOk result (λ status. (status.code == 2) ≡ not (is_some (command_of words.now))) }
+{
+    match command_of(words) {
+        Some(ProgramCommand::Check) => run_check(rt, alloc, words),
+        Some(ProgramCommand::Script) => run_script(rt, alloc, words),
+        None => Ok(refuse(&mut StreamSink::new(io::writer(rt)))),
+    }
+}
+
+fn command_of(words: &[String]) -> Option<ProgramCommand>
+    ensures { result ≡ command_of words.now }
 {
     if is_check(words) {
-        run_check(rt, alloc, words)
-    } else {
-        run_script(rt, alloc, words)
+        return Some(ProgramCommand::Check);
     }
+    if is_script(words) {
+        return Some(ProgramCommand::Script);
+    }
+    None
+}
+
+// Says that the words are no command.
+fn refuse<O: Sink>(sink: &mut O) -> Status
+    ensures status { result.code ≡ 2 }
+    ensures written { Concludes (O.written sink.old) (O.written sink.new) (plain_line Usage)
+        (O.write_faults sink.old) (O.write_faults sink.new) }
+{
+    let end = PlainEnd::Usage;
+    write_last_line(sink, end.last_line());
+    Status { code: end.code() }
 }
 
 fn run_check(rt: &HostRuntime, alloc: Global, words: &[String]) -> Result<Status, NoMemory>
@@ -157,7 +192,7 @@ fn list<O: Sink>(
 }
 
 fn run_script(rt: &HostRuntime, alloc: Global, words: &[String]) -> Result<Status, NoMemory>
-    ensures usage { IfOk result (λ status. (status.code == 2) ≡ not (is_script words.now)) }
+    ensures usage { IfOk result (λ status. (status.code == 2) ≡ not (is_script_lem words.now)) }
 {
     let Ok(mut source) = StreamSource::new(alloc, rt.stdin()) else {
         return Err(NoMemory);
@@ -177,7 +212,7 @@ fn answer<S: Source, O: Sink>(
 ) -> Status
     requires journal { string_bytes files.old.journal.path ≡ path_of (slice_get words.now 1) }
     requires checkpoint { string_bytes files.old.checkpoint.path ≡ path_of (slice_get words.now 2) }
-    ensures usage { (result.code == 2) ≡ not (is_script words.now) }
+    ensures usage { (result.code == 2) ≡ not (is_script_lem words.now) }
     ensures unasked { result.code ≡ 2 → files.new ≡ files.old }
     ensures checkpoint { files.new.checkpoint ≡ files.old.checkpoint }
 {
