@@ -67,25 +67,37 @@ fn put(
     version(rt, blobs, &ask)
 }
 
-const fn note(container: QueueName, name: &'static str) -> BlobAsk<'static> {
-    BlobAsk::Note {
+fn note(rt: &(impl Abort + AllocGlobal), blobs: &mut Blobs, name: &str) -> Result<u64, Fail> {
+    let ask = BlobAsk::Note {
         function: 1,
-        container,
+        container: inbox()?,
         name,
+    };
+    version(rt, blobs, &ask)
+}
+
+// Whether a blob that is removed was there.
+fn was_there(rt: &(impl Abort + AllocGlobal), blobs: &mut Blobs, name: &str) -> Result<bool, Fail> {
+    let ask = BlobAsk::Remove {
+        container: inbox()?,
+        name,
+    };
+    match done(rt, blobs, &ask) {
+        Ok(_) => Ok(true),
+        Err(PlanFault::Rule(Rule::BlobNotFound)) => Ok(false),
+        Err(_) => Err("another fault".into()),
     }
 }
 
 #[test]
 fn a_version_is_noted_once(rt: HostRuntime) -> Result<(), Fail> {
     let mut blobs = Blobs::new(rt.alloc());
-    let ask = note(inbox()?, "a.txt");
     assert_eq!(rt; put(&rt, &mut blobs, "a.txt", "x")?, 1);
-    assert_eq!(rt; version(&rt, &mut blobs, &ask)?, 1);
-    assert_eq!(rt; version(&rt, &mut blobs, &ask)?, 0);
+    assert_eq!(rt; note(&rt, &mut blobs, "a.txt")?, 1);
+    assert_eq!(rt; note(&rt, &mut blobs, "a.txt")?, 0);
     assert_eq!(rt; put(&rt, &mut blobs, "a.txt", "y")?, 2);
-    assert_eq!(rt; version(&rt, &mut blobs, &ask)?, 2);
-    let missing = done(&rt, &mut blobs, &note(inbox()?, "b.txt"));
-    assert!(rt; matches!(missing, Err(PlanFault::Rule(Rule::BlobNotFound))));
+    assert_eq!(rt; note(&rt, &mut blobs, "a.txt")?, 2);
+    assert!(rt; note(&rt, &mut blobs, "b.txt").is_err());
     Ok(())
 }
 
@@ -95,20 +107,23 @@ fn unnoted_blobs_are_listed_in_order(rt: HostRuntime) -> Result<(), Fail> {
     for name in ["b", "c", "a"] {
         put(&rt, &mut blobs, name, "x")?;
     }
-    version(&rt, &mut blobs, &note(inbox()?, "b"))?;
+    note(&rt, &mut blobs, "b")?;
     let names = blobs.unnoted(rt.alloc(), 1, &inbox()?)?;
     let mut listed = String::new(rt.alloc());
     for name in &names {
         listed.push_str(name.as_str())?;
     }
     assert_eq!(rt; listed.as_str(), "ac");
-    let remove = BlobAsk::Remove {
-        container: inbox()?,
-        name: "a",
-    };
-    let removed = done(&rt, &mut blobs, &remove);
-    assert!(rt; matches!(removed, Ok(BlobDone::Removed)));
+    Ok(())
+}
+
+#[test]
+fn a_removed_blob_is_gone(rt: HostRuntime) -> Result<(), Fail> {
+    let mut blobs = Blobs::new(rt.alloc());
+    put(&rt, &mut blobs, "a", "x")?;
+    assert!(rt; was_there(&rt, &mut blobs, "a")?);
     assert!(rt; blobs.get(&inbox()?, "a").is_none());
+    assert!(rt; !was_there(&rt, &mut blobs, "a")?);
     Ok(())
 }
 
