@@ -505,6 +505,11 @@ fn expect_scanned(
     Ok(())
 }
 
+// When a step comes, in milliseconds.
+fn at_step(step: u64) -> u64 {
+    step.saturating_mul(700)
+}
+
 fn put_step(
     rt: &(impl Abort + AllocGlobal),
     queues: &mut Queues,
@@ -514,9 +519,9 @@ fn put_step(
     requires { IsIdle queues.old }
     ensures { IsIdle queues.new }
 {
-    let delay = step * 7 % 5;
-    let ttl = delay + 1 + step * 3 % 9;
-    let ms = step * 700;
+    let delay = step.wrapping_mul(7) % 5;
+    let ttl = delay + 1 + step.wrapping_mul(3) % 9;
+    let ms = at_step(step);
     let put = Step::Put {
         delay,
         ttl: Some(ttl),
@@ -524,8 +529,8 @@ fn put_step(
     };
     answer(rt, queues, &put, moment(ms)?)?;
     plain.push(Plain {
-        visible_at: ms + delay * 1000,
-        expiry: ms + ttl * 1000,
+        visible_at: ms.saturating_add(delay * 1000),
+        expiry: ms.saturating_add(ttl * 1000),
     })?;
     Ok(())
 }
@@ -538,7 +543,7 @@ fn interleaved_puts_are_found_as_by_a_plain_scan(rt: HostRuntime) -> Result<(), 
     for step in 0..60u64 {
         put_step(&rt, &mut queues, &mut plain, step)?;
         for later in [0, 500, 1000, 2500, 4000] {
-            expect_scanned(&rt, &queues, &plain, step * 700 + later)?;
+            expect_scanned(&rt, &queues, &plain, at_step(step).saturating_add(later))?;
         }
     }
     Ok(())

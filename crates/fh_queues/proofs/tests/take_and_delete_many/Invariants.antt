@@ -1,5 +1,5 @@
 use Rattle.fh_queues.specs.Edits.{IsIdle}
 use Rattle.fh_queues.proofs.tests.take_and_delete_many.Given as goal
 
-abbrev pub invariant-loop-count : goal.invariant-loop-count
-invariant-loop-count g l = IsIdle l.queues
+abbrev pub invariant-loop : goal.invariant-loop
+invariant-loop g l = IsIdle l.queues
