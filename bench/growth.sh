@@ -4,12 +4,13 @@
 #
 # A journal is filled with so many puts of 100 bytes, and then so many turns take the first message, delete it
 # and put another one. What counts is the time in user mode of the best round, less that of the same run with
-# no turns; the kernel's time is left out. A mounted entry is timed by a run that answers no line, less that of
-# a run over an empty journal. The last lines are the ratios of the last store to the first.
+# no turns; the kernel's time is left out. A mounted entry is timed by as many runs that answer no line as make
+# 100,000 entries, less as many runs over an empty journal. The last lines are the ratios of the last store to
+# the first. TMPDIR should name a folder in memory, and the machine be idle.
 set -eu
 top=$(cd "$(dirname "$0")/.." && pwd)
-turns=${1:-5000}
-rounds=${2:-3}
+turns=${1:-50000}
+rounds=${2:-5}
 folder=$(mktemp -d "${TMPDIR:-/tmp}/growth.XXXXXX")
 trap 'rm -rf "$folder"' EXIT
 # The program itself is timed, once it is built, and not the script that looks for changed sources.
@@ -36,38 +37,69 @@ turn() {
     }'
 }
 
-# The least time in user mode, in milliseconds, of a run over a copy of a journal.
-best() {
-    local journal=$1 lines=$2 least='' taken
+# The time in user mode that a command takes, in milliseconds; it fails where a line was refused.
+user_time() {
+    local taken
+    taken=$({
+        TIMEFORMAT=%3U
+        time "$@" > "$folder/answers"
+    } 2>&1)
+    if grep -q '^no ' "$folder/answers"; then
+        echo 'a line was refused' >&2
+        exit 1
+    fi
+    awk -v s="$taken" 'BEGIN { printf "%d", s * 1000 }'
+}
+
+# Answers lines over a copy of a journal.
+answer() {
+    "$program" script "$folder/run" "$folder/checkpoint" < "$1"
+}
+
+# Mounts a journal so many times.
+mount_often() {
+    local n
+    for ((n = 0; n < $2; n++)); do
+        "$program" script "$1" "$folder/checkpoint" < "$folder/none"
+    done
+}
+
+# The least time of all rounds, of turns over a copy of a journal.
+best_turns() {
+    local least='' taken
     for ((round = 0; round < rounds; round++)); do
-        rm -f "$folder/run"
-        if [ -e "$journal" ]; then cp "$journal" "$folder/run"; fi
-        taken=$({
-            TIMEFORMAT=%3U
-            time "$program" script "$folder/run" "$folder/checkpoint" < "$lines" > "$folder/answers"
-        } 2>&1)
-        if grep -q '^no ' "$folder/answers"; then
-            echo 'a line was refused' >&2
-            exit 1
-        fi
-        taken=$(awk -v s="$taken" 'BEGIN { printf "%d", s * 1000 }')
+        cp "$1" "$folder/run"
+        taken=$(user_time answer "$2")
+        if [ -z "$least" ] || [ "$taken" -lt "$least" ]; then least=$taken; fi
+    done
+    echo "$least"
+}
+
+# The least time of all rounds, of so many mounts.
+best_mounts() {
+    local least='' taken
+    for ((round = 0; round < rounds; round++)); do
+        taken=$(user_time mount_often "$1" "$2")
         if [ -z "$least" ] || [ "$taken" -lt "$least" ]; then least=$taken; fi
     done
     echo "$least"
 }
 
 : > "$folder/none"
-empty=$(best "$folder/no_journal" "$folder/none")
 first_turn=''
 for live in 1000 10000 99999; do
+    mounts=$((100000 / live))
     fill "$live" > "$folder/fill"
     turn "$live" > "$folder/turn"
-    rm -f "$folder/journal"
+    rm -f "$folder/journal" "$folder/empty"
     "$program" script "$folder/journal" "$folder/checkpoint" < "$folder/fill" > "$folder/answers"
-    mounted=$(best "$folder/journal" "$folder/none")
-    turned=$(best "$folder/journal" "$folder/turn")
-    turn=$(awk -v t="$turned" -v m="$mounted" -v n="$turns" 'BEGIN { printf "%.2f", (t - m) * 1000 / n }')
-    entry=$(awk -v m="$mounted" -v e="$empty" -v n="$live" 'BEGIN { printf "%.2f", (m - e) * 1000 / n }')
+    mounted=$(best_mounts "$folder/journal" "$mounts")
+    nothing=$(best_mounts "$folder/empty" "$mounts")
+    unturned=$(best_turns "$folder/journal" "$folder/none")
+    turned=$(best_turns "$folder/journal" "$folder/turn")
+    turn=$(awk -v t="$turned" -v m="$unturned" -v n="$turns" 'BEGIN { printf "%.2f", (t - m) * 1000 / n }')
+    entry=$(awk -v m="$mounted" -v e="$nothing" -v n="$live" -v r="$mounts" \
+        'BEGIN { printf "%.2f", (m - e) * 1000 / (n * r) }')
     echo "$live live: $turn microseconds a put, a take and a delete; $entry a mounted entry"
     if [ -z "$first_turn" ]; then
         first_turn=$turn
