@@ -6,8 +6,7 @@ ghost use Rattle.fh_app.specs.Host.{host_of, handler_of, path_row, directory_row
 
 use crate::fault::AppFault;
 use crate::rows::File;
-use crate::texts::Texts;
-use fh_base::Text;
+use fh_base::{Text, Texts};
 use serde_json::Value;
 use std::alloc::Global;
 

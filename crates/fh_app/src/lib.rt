@@ -24,7 +24,6 @@ mod path_folder;
 mod rows;
 mod settings;
 mod targets;
-mod texts;
 
 pub use app::{App, AppFiles, FunctionFiles};
 pub use checking::{check, is_check};
@@ -34,7 +33,6 @@ pub use function::{Function, Functions, OutBinding, Outputs, Trigger};
 pub use host::{Handler, QueueSettings};
 pub use memory_folder::MemoryFolder;
 pub use path_folder::PathFolder;
-pub use texts::Texts;
 
 #[cfg(test)]
 mod tests;

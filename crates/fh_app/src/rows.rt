@@ -8,8 +8,7 @@ ghost use Rattle.fh_app.specs.Rows.{row, at, needed, texts_row, texts_behind, it
 
 use crate::fault::{AppFault, bad_value, missing};
 use crate::kinds;
-use crate::texts::Texts;
-use fh_base::{NoMemory, Text};
+use fh_base::{NoMemory, Text, Texts};
 use fh_exprs::member_of;
 use serde_json::Value;
 use std::alloc::Global;

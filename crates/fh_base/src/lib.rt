@@ -32,6 +32,7 @@ mod sink;
 mod source;
 mod status;
 mod text;
+mod texts;
 mod times;
 
 pub use blob_name::is_blob_name;
@@ -56,6 +57,7 @@ pub use sink::{MemorySink, Sink, StreamSink, write_all};
 pub use source::{MemorySource, Source, StreamSource, read_byte};
 pub use status::Status;
 pub use text::{Text, utf8_text};
+pub use texts::Texts;
 pub use times::{TimeForm, time_text};
 
 #[cfg(test)]

@@ -1,10 +1,11 @@
-//! A list of texts that contracts see as the list of their bytes.
+// A list of texts.
 ghost use Rattle.std.specs.Prelude.{◌≡◌, []};
 
-use fh_base::Text;
+use crate::Text;
 use std::alloc::Global;
 use std::marker::Model;
 
+/// Texts in order. Contracts see the list of their bytes.
 #[derive(Debug, Drop)]
 pub struct Texts {
     texts: Vec<Text>,
@@ -27,7 +28,7 @@ impl Texts {
     }
 
     /// No text. Takes no memory.
-    pub(crate) fn new(alloc: Global) -> Texts
+    pub fn new(alloc: Global) -> Texts
         ensures { result ≡ [] }
     {
         Texts {
