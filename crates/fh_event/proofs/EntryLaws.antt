@@ -1,124 +1,177 @@
--- The two laws of the codec: what is read is an entry, and an entry is read. They go over the tables of
--- fields once; what a kind adds is its case in `agrees`, `values_of` and `rebuilt`.
-use Rattle.std.proofs.Common.{◌≡◌, ℕ, ◌+◌, ◌^◌, ◌<◌, ◌≤◌, Bool, true, false, cond, eqb, ltb, List, [], ◌∷◌, ◌++◌, length, Option, Some, None, Result, Ok, Err, refl, sym, ap, subst, ◌∙◌, append_assoc, arith}
-use Rattle.std.specs.Prelude.{find}
+-- The two laws of the codec: what is read is an entry, and an entry is read. What a kind adds is its case in
+-- `agrees`, `values_of`, `rebuilt` and `found`.
+use Rattle.std.proofs.Common.{◌≡◌, ℕ, ◌^◌, ◌<◌, ◌≤◌, false, cond, eqb, ltb, List, [], ◌∷◌, ◌++◌, length, Option, Some, None, Ok, Err, refl, sym, ap, subst, ◌∙◌, arith}
 use Rattle.std.specs.List.{flat_map, AllByRecursion}
 use Rattle.std.specs.Int.{w64, to_be_bytes}
 use Rattle.std.proofs.lemmas.Bool.{eqb-true, ltb-false, le-ltb}
 use Rattle.std.proofs.lemmas.List.{append-nil, nil_from_length}
 use Rattle.fh_base.specs.Moments.{greatest_moment}
 use Rattle.fh_event.specs.declared.command.Command.{Command}
-use Rattle.fh_event.specs.declared.command.Command.TheVariants.{MakeQueue, Put, Take, Update, Delete, Clear, Peek, Locate}
-use Rattle.fh_event.specs.declared.faults.EventFault.{EventFault}
+use Rattle.fh_event.specs.declared.command.Command.TheVariants.{MakeQueue, Put, Take, Update, Delete, Clear, PutBlob, DeleteBlob, Note, Acquire, RenewLease, ReleaseLease, Configure, Peek, GetBlob, Locate, Unnoted}
 use Rattle.fh_event.specs.declared.faults.EventFault.TheVariants.{BadField, Trailing}
+use Rattle.fh_event.specs.declared.settings.FunctionSettings.{FunctionSettings}
+use Rattle.fh_event.specs.declared.settings.FunctionSettings.TheVariants.{Queue, Blob}
 use Rattle.fh_event.specs.declared.tables.FieldType.{FieldType}
-use Rattle.fh_event.specs.declared.tables.FieldType.TheVariants.{Number, Words, MaybeNumber, MaybeWords}
+use Rattle.fh_event.specs.declared.tables.FieldType.TheVariants.{Number, Words, MaybeNumber, MaybeWords, Settings}
 use Rattle.fh_event.specs.Answers.{◌>>=◌}
 use Rattle.fh_event.specs.Fields.{Field, number, words, maybe_number, maybe_words, number_bytes, text_bytes, spelled, IsText, IsField}
-use Rattle.fh_event.specs.Kinds.{Kind, make_queue, put, take, update, delete, clear, peek, locate, kind_number, kind_of, fields_of, all_kinds, kind_at, types_of, Held, Taking, made}
+use Rattle.fh_event.specs.Settings.{Form, queue_form, blob_form, form_number, form_of, fields_behind_form, fields_of_settings, all_forms, form_at, PlainType, number_type, words_type, HeldPlain, types_of_form, made_settings}
+use Rattle.fh_event.specs.Kinds.{Kind, make_queue, put, take, update, delete, clear, put_blob, delete_blob, note, acquire, renew_lease, release_lease, configure, peek, get_blob, locate, unnoted, kind_number, kind_of, fields_of, all_kinds, kind_at, types_of, Held, made}
 use Rattle.fh_event.specs.Entries.{entry, IsEntry}
-use Rattle.fh_event.specs.Reading.{number_at, text_at, held_at, taken_at, command_of_kind, command_at, moment_at, kind_byte_at, entry_read}
-use Rattle.fh_event.proofs.Steps.{bind_ok, passed, ended, ok_is, IsBytes, IsBytes-rest, Takes, Takes-then}
-use Rattle.fh_event.proofs.FieldLaws.{wide64, number_takes, number_again, Reads, numbers, texts, maybe}
+use Rattle.fh_event.specs.Reading.{byte_at, number_at, text_at, plain_at, settings_of_form, settings_at, held_at, taken_at, command_of_kind, command_at, moment_at, entry_read}
+use Rattle.fh_event.proofs.Steps.{bind_ok, passed, ended, ok_is, IsBytes, IsBytes-rest, Takes, Takes-then, Takes-one}
+use Rattle.fh_event.proofs.FieldLaws.{wide64, number_takes, number_again, byte_takes, byte_again, numbers, texts, maybe}
+use Rattle.fh_event.proofs.TableLaws.{ReadsFields, one_field, Values, applied, fields_with, IsTable, variant_takes, variant_again, find_passes}
+
+-- ---- settings of functions
+
+abbrev plain_field : (type : PlainType) → HeldPlain type → List Field
+plain_field number_type n = number n ∷ []
+plain_field words_type text = words text ∷ []
+
+plain_reads : (type : PlainType) (i : ℕ) → ReadsFields (plain_at type i) (plain_field type)
+plain_reads number_type i = one_field number (numbers i)
+plain_reads words_type i = one_field words (texts i)
+
+settings_agree : (f : Form) (values : Values HeldPlain (types_of_form f))
+    → (form_of (applied HeldPlain (types_of_form f) (made_settings f) values) ≡ f)
+    × (fields_behind_form (applied HeldPlain (types_of_form f) (made_settings f) values) ≡ fields_with plain_field (types_of_form f) values)
+settings_agree queue_form values = (refl, refl)
+settings_agree blob_form values = (refl, refl)
+
+abbrev values_of_settings : (s : FunctionSettings) → Values HeldPlain (types_of_form (form_of s))
+values_of_settings (Queue queue batch threshold limit retry singleton) =
+    (queue, (batch, (threshold, (limit, (retry, (singleton, tt))))))
+values_of_settings (Blob batch threshold limit retry singleton) = (batch, (threshold, (limit, (retry, (singleton, tt)))))
+
+settings_rebuilt : (s : FunctionSettings)
+    → (applied HeldPlain (types_of_form (form_of s)) (made_settings (form_of s)) (values_of_settings s) ≡ s)
+    × (fields_with plain_field (types_of_form (form_of s)) (values_of_settings s) ≡ fields_behind_form s)
+settings_rebuilt (Queue queue batch threshold limit retry singleton) = (refl, refl)
+settings_rebuilt (Blob batch threshold limit retry singleton) = (refl, refl)
+
+form_found : (f : Form) → form_at (form_number f) ≡ Some f
+unfolding form_at
+form_found queue_form = refl
+form_found blob_form = refl
+
+form_numbered : (n : ℕ) (f : Form) → form_at n ≡ Some f → form_number f ≡ n
+unfolding form_at
+form_numbered n f e = eqb-true _ _ (find_passes (λ (g : Form). eqb (form_number g) n) all_forms f e)
+
+form_is_byte : (f : Form) → form_number f < 2 ^ 8
+form_is_byte queue_form = omega arith
+form_is_byte blob_form = omega arith
+
+settings_table : IsTable plain_field form_of fields_behind_form types_of_form made_settings
+settings_table = record { agrees = settings_agree; values_of = values_of_settings; rebuilt = settings_rebuilt }
+
+form_takes : (i n : ℕ) (o : Option Form) (bytes : List ℕ) (x : FunctionSettings × List ℕ) → IsBytes bytes → form_at n ≡ o
+    → settings_of_form i o bytes ≡ Ok x
+    → Takes (n ∷ bytes) (flat_map spelled (fields_of_settings x.0)) x.1 × AllByRecursion IsField (fields_of_settings x.0)
+form_takes i n None bytes x fits is e = absurd cc
+form_takes i n (Some f) bytes x fits is e =
+    let t = variant_takes plain_reads settings_table f 0 i bytes x fits e in
+    let number-is : n ≡ form_number (form_of x.0) = sym (form_numbered n f is) ∙ ap form_number (sym t.kind) in (
+      subst (λ (k : ℕ). Takes (k ∷ bytes) (flat_map spelled (fields_of_settings x.0)) x.1) (sym number-is)
+          (Takes-one (form_number (form_of x.0)) bytes (flat_map spelled (fields_behind_form x.0)) x.1 t.taken),
+      (form_is_byte (form_of x.0), t.are_fields),
+    )
+
+settings_takes : (i : ℕ) (bytes : List ℕ) (x : FunctionSettings × List ℕ) → IsBytes bytes → settings_at i bytes ≡ Ok x
+    → Takes bytes (flat_map spelled (fields_of_settings x.0)) x.1 × AllByRecursion IsField (fields_of_settings x.0)
+unfolding settings_at byte_at
+settings_takes i [] x fits e = absurd cc
+settings_takes i (n ∷ bytes) x fits e = form_takes i n (form_at n) bytes x (IsBytes-rest n bytes fits) refl e
+
+settings_again : (i : ℕ) (s : FunctionSettings) (rest : List ℕ) → AllByRecursion IsField (fields_of_settings s)
+    → settings_at i (flat_map spelled (fields_of_settings s) ++ rest) ≡ Ok (s, rest)
+unfolding settings_at byte_at
+settings_again i s rest h =
+    ap (λ (o : Option Form). settings_of_form i o (flat_map spelled (fields_behind_form s) ++ rest)) (form_found (form_of s))
+    ∙ variant_again plain_reads settings_table s 0 i rest h.1
 
 -- ---- a field of a type
 
-abbrev field_of : (type : FieldType) → Held type → Field
-field_of Number = number
-field_of Words = words
-field_of MaybeNumber = maybe_number
-field_of MaybeWords = maybe_words
+abbrev field_of : (type : FieldType) → Held type → List Field
+field_of Number n = number n ∷ []
+field_of Words text = words text ∷ []
+field_of MaybeNumber n = maybe_number n ∷ []
+field_of MaybeWords text = maybe_words text ∷ []
+field_of Settings s = fields_of_settings s
 
-reads : (type : FieldType) (i : ℕ) → Reads (held_at type i) (λ v. spelled (field_of type v)) (λ v. IsField (field_of type v))
-reads Number i = numbers i
-reads Words i = texts i
-reads MaybeNumber i = maybe (number_at w64 i) number_bytes (λ n. n < 2 ^ 64) (numbers i) i
-reads MaybeWords i = maybe (text_at i) text_bytes IsText (texts i) i
-
--- ---- the fields of a table
-
-abbrev Values : List FieldType → Type 0
-Values [] = Unit {0}
-Values (type ∷ types) = Held type × Values types
-
-abbrev applied : (types : List FieldType) → Taking types → Values types → Command
-applied [] command values = command
-applied (type ∷ types) taking values = applied types (taking values.0) values.1
-
-abbrev fields_with : (types : List FieldType) → Values types → List Field
-fields_with [] values = []
-fields_with (type ∷ types) values = field_of type values.0 ∷ fields_with types values.1
-
--- what the fields of a table took
-record TakesFields (types : List FieldType) (taking : Taking types) (bytes : List ℕ) (command : Command) (rest : List ℕ) : Type 0 where
-  values : Values types
-  command_is : applied types taking values ≡ command
-  taken : Takes bytes (flat_map spelled (fields_with types values)) rest
-  are_fields : AllByRecursion IsField (fields_with types values)
-
-fields_take : (types : List FieldType) (taking : Taking types) (i : ℕ) (bytes : List ℕ) (x : Command × List ℕ) → IsBytes bytes
-    → taken_at types taking i bytes ≡ Ok x → TakesFields types taking bytes x.0 x.1
-fields_take [] command i bytes x fits e =
-    subst (λ (y : Command × List ℕ). TakesFields [] command bytes y.0 y.1) (ok_is (command, bytes) x e)
-    (record { values = tt; command_is = refl; taken = record { parts = refl; rest_fits = fits }; are_fields = tt })
-fields_take (type ∷ types) taking i bytes x fits e =
-    let b = bind_ok (held_at type i bytes) (λ v. taken_at types (taking v.0) (i + 1) v.1) x e in
-    let first = (reads type i).takes bytes b.0 fits b.1 in
-    let others = fields_take types (taking b.0.0) (i + 1) b.0.1 x first.0.rest_fits b.2 in
-    record {
-      values = (b.0.0, others.values);
-      command_is = others.command_is;
-      taken = Takes-then bytes (spelled (field_of type b.0.0)) b.0.1 (flat_map spelled (fields_with types others.values)) x.1 first.0 others.taken;
-      are_fields = (first.1, others.are_fields);
-    }
-
-fields_again : (types : List FieldType) (taking : Taking types) (i : ℕ) (values : Values types) (rest : List ℕ)
-    → AllByRecursion IsField (fields_with types values)
-    → taken_at types taking i (flat_map spelled (fields_with types values) ++ rest) ≡ Ok (applied types taking values, rest)
-fields_again [] command i values rest h = refl
-fields_again (type ∷ types) taking i values rest h =
-    let others = flat_map spelled (fields_with types values.1) in
-    let regrouped : (spelled (field_of type values.0) ++ others) ++ rest ≡ spelled (field_of type values.0) ++ (others ++ rest)
-    = append_assoc (spelled (field_of type values.0)) others rest in
-    ap (taken_at (type ∷ types) taking i) regrouped
-    ∙ ap (λ (r : Result (Held type × List ℕ) EventFault). r >>= λ x. taken_at types (taking x.0) (i + 1) x.1) ((reads type i).again values.0 (others ++ rest) h.0)
-    ∙ fields_again types (taking values.0) (i + 1) values.1 rest h.1
+reads : (type : FieldType) (i : ℕ) → ReadsFields (held_at type i) (field_of type)
+reads Number i = one_field number (numbers i)
+reads Words i = one_field words (texts i)
+reads MaybeNumber i = one_field maybe_number (maybe (number_at w64 i) number_bytes (λ n. n < 2 ^ 64) (numbers i) i)
+reads MaybeWords i = one_field maybe_words (maybe (text_at i) text_bytes IsText (texts i) i)
+reads Settings i = record {
+  takes = λ bytes x fits e. settings_takes i bytes x fits e;
+  again = λ s rest h. settings_again i s rest h;
+}
 
 -- ---- the kinds
 
 -- what the table of a kind makes is a command of the kind with these fields
-agrees : (k : Kind) (values : Values (types_of k)) → (kind_of (applied (types_of k) (made k) values) ≡ k)
-    × (fields_of (applied (types_of k) (made k) values) ≡ fields_with (types_of k) values)
+agrees : (k : Kind) (values : Values Held (types_of k)) → (kind_of (applied Held (types_of k) (made k) values) ≡ k)
+    × (fields_of (applied Held (types_of k) (made k) values) ≡ fields_with field_of (types_of k) values)
 agrees make_queue values = (refl, refl)
 agrees put values = (refl, refl)
 agrees take values = (refl, refl)
 agrees update values = (refl, refl)
 agrees delete values = (refl, refl)
 agrees clear values = (refl, refl)
+agrees put_blob values = (refl, refl)
+agrees delete_blob values = (refl, refl)
+agrees note values = (refl, refl)
+agrees acquire values = (refl, refl)
+agrees renew_lease values = (refl, refl)
+agrees release_lease values = (refl, refl)
+agrees configure values = (refl, ap (λ (fs : List Field). words values.0 ∷ fs) (sym (append-nil (fields_of_settings values.1.0))))
 agrees peek values = (refl, refl)
+agrees get_blob values = (refl, refl)
 agrees locate values = (refl, refl)
+agrees unnoted values = (refl, refl)
 
-abbrev values_of : (c : Command) → Values (types_of (kind_of c))
+abbrev values_of : (c : Command) → Values Held (types_of (kind_of c))
 values_of (MakeQueue queue) = (queue, tt)
 values_of (Put queue delay ttl text) = (queue, (delay, (ttl, (text, tt))))
 values_of (Take queue count hold) = (queue, (count, (hold, tt)))
 values_of (Update queue n receipt hold text) = (queue, (n, (receipt, (hold, (text, tt)))))
 values_of (Delete queue n receipt) = (queue, (n, (receipt, tt)))
 values_of (Clear queue) = (queue, tt)
+values_of (PutBlob container blob text) = (container, (blob, (text, tt)))
+values_of (DeleteBlob container blob) = (container, (blob, tt))
+values_of (Note function container blob) = (function, (container, (blob, tt)))
+values_of (Acquire lease holder seconds) = (lease, (holder, (seconds, tt)))
+values_of (RenewLease lease holder) = (lease, (holder, tt))
+values_of (ReleaseLease lease holder) = (lease, (holder, tt))
+values_of (Configure function settings) = (function, (settings, tt))
 values_of (Peek queue count) = (queue, (count, tt))
+values_of (GetBlob container blob) = (container, (blob, tt))
 values_of (Locate n) = (n, tt)
+values_of (Unnoted function container) = (function, (container, tt))
 
 -- a command is what the table of its kind makes of its values, and these are its fields
-rebuilt : (c : Command) → (applied (types_of (kind_of c)) (made (kind_of c)) (values_of c) ≡ c)
-    × (fields_with (types_of (kind_of c)) (values_of c) ≡ fields_of c)
+rebuilt : (c : Command) → (applied Held (types_of (kind_of c)) (made (kind_of c)) (values_of c) ≡ c)
+    × (fields_with field_of (types_of (kind_of c)) (values_of c) ≡ fields_of c)
 rebuilt (MakeQueue queue) = (refl, refl)
 rebuilt (Put queue delay ttl text) = (refl, refl)
 rebuilt (Take queue count hold) = (refl, refl)
 rebuilt (Update queue n receipt hold text) = (refl, refl)
 rebuilt (Delete queue n receipt) = (refl, refl)
 rebuilt (Clear queue) = (refl, refl)
+rebuilt (PutBlob container blob text) = (refl, refl)
+rebuilt (DeleteBlob container blob) = (refl, refl)
+rebuilt (Note function container blob) = (refl, refl)
+rebuilt (Acquire lease holder seconds) = (refl, refl)
+rebuilt (RenewLease lease holder) = (refl, refl)
+rebuilt (ReleaseLease lease holder) = (refl, refl)
+rebuilt (Configure function settings) = (refl, ap (λ (fs : List Field). words function ∷ fs) (append-nil (fields_of_settings settings)))
 rebuilt (Peek queue count) = (refl, refl)
+rebuilt (GetBlob container blob) = (refl, refl)
 rebuilt (Locate n) = (refl, refl)
+rebuilt (Unnoted function container) = (refl, refl)
 
 -- a kind is found by its number
 found : (k : Kind) → kind_at (kind_number k) ≡ Some k
@@ -129,22 +182,24 @@ found take = refl
 found update = refl
 found delete = refl
 found clear = refl
+found put_blob = refl
+found delete_blob = refl
+found note = refl
+found acquire = refl
+found renew_lease = refl
+found release_lease = refl
+found configure = refl
 found peek = refl
+found get_blob = refl
 found locate = refl
-
-find_step : {X : Type 0} (p : X → Bool) (b : Bool) (y x : X) (r : Option X) → p y ≡ b → (r ≡ Some x → p x ≡ true)
-    → cond b (Some y) r ≡ Some x → p x ≡ true
-find_step p true y x r is others e = let same : y ≡ x = cc in ap p (sym same) ∙ is
-find_step p false y x r is others e = others e
-
--- what is found passes
-find_passes : {X : Type 0} (p : X → Bool) (xs : List X) (x : X) → find p xs ≡ Some x → p x ≡ true
-find_passes p [] x e = absurd cc
-find_passes p (y ∷ ys) x e = find_step p (p y) y x (find p ys) refl (find_passes p ys x) e
+found unnoted = refl
 
 numbered : (n : ℕ) (k : Kind) → kind_at n ≡ Some k → kind_number k ≡ n
 unfolding kind_at
 numbered n k e = eqb-true _ _ (find_passes (λ (j : Kind). eqb (kind_number j) n) all_kinds k e)
+
+table : IsTable field_of kind_of fields_of types_of made
+table = record { agrees = agrees; values_of = values_of; rebuilt = rebuilt }
 
 -- ---- a command
 
@@ -158,15 +213,8 @@ kind_takes : (n : ℕ) (o : Option Kind) (bytes : List ℕ) (x : Command × List
     → command_of_kind n o bytes ≡ Ok x → TakesCommand n bytes x.0 x.1
 kind_takes n None bytes x fits is e = absurd cc
 kind_takes n (Some k) bytes x fits is e =
-    let t = fields_take (types_of k) (made k) 1 bytes x fits e in
-    let a = agrees k t.values in
-    let kind-is : kind_of x.0 ≡ k = ap kind_of (sym t.command_is) ∙ a.0 in
-    let fields-are : fields_of x.0 ≡ fields_with (types_of k) t.values = ap fields_of (sym t.command_is) ∙ a.1 in
-    record {
-      kind = ap kind_number kind-is ∙ numbered n k is;
-      taken = subst (λ (fs : List Field). Takes bytes (flat_map spelled fs) x.1) (sym fields-are) t.taken;
-      are_fields = subst (λ (fs : List Field). AllByRecursion IsField fs) (sym fields-are) t.are_fields;
-    }
+    let t = variant_takes reads table k 1 1 bytes x fits e in
+    record { kind = ap kind_number t.kind ∙ numbered n k is; taken = t.taken; are_fields = t.are_fields }
 
 command_takes : (n : ℕ) (bytes : List ℕ) (x : Command × List ℕ) → IsBytes bytes → command_at n bytes ≡ Ok x
     → TakesCommand n bytes x.0 x.1
@@ -177,17 +225,9 @@ command_again : (c : Command) → AllByRecursion IsField (fields_of c)
     → command_at (kind_number (kind_of c)) (flat_map spelled (fields_of c)) ≡ Ok (c, [])
 unfolding command_at
 command_again c h =
-    let k = kind_of c in
-    let values = values_of c in
-    let made-is = (rebuilt c).0 in
-    let fields-are = (rebuilt c).1 in
-    let are-fields : AllByRecursion IsField (fields_with (types_of k) values) = subst (λ (fs : List Field). AllByRecursion IsField fs) (sym fields-are) h in
-    let bytes-are : flat_map spelled (fields_of c) ≡ flat_map spelled (fields_with (types_of k) values) ++ []
-    = ap (flat_map spelled) (sym fields-are) ∙ sym (append-nil _) in
-    ap (λ (o : Option Kind). command_of_kind (kind_number k) o (flat_map spelled (fields_of c))) (found k)
-    ∙ ap (taken_at (types_of k) (made k) 1) bytes-are
-    ∙ fields_again (types_of k) (made k) 1 values [] are-fields
-    ∙ ap (λ (d : Command). Ok (d, [])) made-is
+    ap (λ (o : Option Kind). command_of_kind (kind_number (kind_of c)) o (flat_map spelled (fields_of c))) (found (kind_of c))
+    ∙ ap (taken_at held_at 1 (types_of (kind_of c)) (made (kind_of c)) 1) (sym (append-nil (flat_map spelled (fields_of c))))
+    ∙ variant_again reads table c 1 1 [] h
 
 -- ---- moment and kind
 
@@ -206,17 +246,6 @@ moment_again m rest h =
     let early : ltb greatest_moment m ≡ false = le-ltb _ _ h in
     rw (number_again w64 (2 ^ 64) wide64 0 m rest (omega arith), early) refl
 
-kind_byte_takes : (bytes : List ℕ) (x : ℕ × List ℕ) → IsBytes bytes → kind_byte_at bytes ≡ Ok x → Takes bytes (x.0 ∷ []) x.1
-unfolding kind_byte_at
-kind_byte_takes [] x fits e = absurd cc
-kind_byte_takes (k ∷ bytes) x fits e =
-    subst (λ (y : ℕ × List ℕ). Takes (k ∷ bytes) (y.0 ∷ []) y.1) (ok_is (k, bytes) x e)
-    (record { parts = refl; rest_fits = IsBytes-rest k bytes fits })
-
-kind_byte_again : (k : ℕ) (rest : List ℕ) → kind_byte_at (k ∷ rest) ≡ Ok (k, rest)
-unfolding kind_byte_at
-kind_byte_again k rest = refl
-
 -- ---- entries
 
 -- the parts that were taken, put together
@@ -229,12 +258,12 @@ spelled_so bytes front kind n fields rest parts none same =
 pub is_read : (bytes : List ℕ) (x : ℕ × Command) → IsBytes bytes → entry_read bytes ≡ Ok x → IsEntry bytes x.0 x.1
 unfolding entry_read
 is_read bytes x fits e =
-    let a = bind_ok (moment_at bytes) (λ m. kind_byte_at m.1 >>= λ k. command_at k.0 k.1 >>= λ c. cond (eqb (length c.1) 0) (Ok (m.0, c.0)) (Err (Trailing (length c.1)))) x e in
-    let b = bind_ok (kind_byte_at a.0.1) (λ k. command_at k.0 k.1 >>= λ c. cond (eqb (length c.1) 0) (Ok (a.0.0, c.0)) (Err (Trailing (length c.1)))) x a.2 in
+    let a = bind_ok (moment_at bytes) (λ m. byte_at 0 m.1 >>= λ k. command_at k.0 k.1 >>= λ c. cond (eqb (length c.1) 0) (Ok (m.0, c.0)) (Err (Trailing (length c.1)))) x e in
+    let b = bind_ok (byte_at 0 a.0.1) (λ k. command_at k.0 k.1 >>= λ c. cond (eqb (length c.1) 0) (Ok (a.0.0, c.0)) (Err (Trailing (length c.1)))) x a.2 in
     let d = bind_ok (command_at b.0.0 b.0.1) (λ c. cond (eqb (length c.1) 0) (Ok (a.0.0, c.0)) (Err (Trailing (length c.1)))) x b.2 in
     let g = ended (eqb (length d.0.1) 0) (Trailing (length d.0.1)) (a.0.0, d.0.0) x d.2 in
     let moment = moment_takes bytes a.0 fits a.1 in
-    let kind = kind_byte_takes a.0.1 b.0 moment.0.rest_fits b.1 in
+    let kind = byte_takes 0 a.0.1 b.0 moment.0.rest_fits b.1 in
     let command = command_takes b.0.0 b.0.1 d.0 kind.rest_fits d.1 in
     let none-left : d.0.1 ≡ [] = nil_from_length d.0.1 (eqb-true _ _ g.0) in
     let behind = Takes-then a.0.1 (b.0.0 ∷ []) b.0.1 (flat_map spelled (fields_of d.0.0)) d.0.1 kind command.taken in
@@ -250,7 +279,7 @@ read_again bytes moment c h =
     ap entry_read h.spelling
     ∙ rw (
       moment_again moment (kind_number (kind_of c) ∷ flat_map spelled (fields_of c)) h.in_time,
-      kind_byte_again (kind_number (kind_of c)) (flat_map spelled (fields_of c)),
+      byte_again 0 (kind_number (kind_of c)) (flat_map spelled (fields_of c)),
       command_again c h.fields,
     )
     refl

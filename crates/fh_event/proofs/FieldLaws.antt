@@ -11,7 +11,7 @@ use Rattle.fh_event.specs.declared.faults.EventFault.{EventFault}
 use Rattle.fh_event.specs.declared.faults.EventFault.TheVariants.{ShortField, LongField, BadField}
 use Rattle.fh_event.specs.Fields.{number_bytes, text_bytes, maybe_bytes, IsText}
 use Rattle.fh_base.specs.Limits.{longest_payload}
-use Rattle.fh_event.specs.Reading.{number_at, text_of_length, text_at, flag_at, behind_flag, maybe_at}
+use Rattle.fh_event.specs.Reading.{byte_at, number_at, text_of_length, text_at, flag_at, behind_flag, maybe_at}
 use Rattle.fh_event.proofs.Steps.{bind_ok, passed, ended, ok_is, IsBytes, IsBytes-drop, IsBytes-take, IsBytes-rest, Takes, Takes-then, Takes-one}
 
 -- ---- numbers
@@ -58,6 +58,19 @@ number_again w limit wide field n rest lt =
     let size = wide.size n in
     let long : ltb (length (to_be_bytes w n ++ rest)) (byte_len w) ≡ false = le-ltb _ _ (omega (arith, length-append (to_be_bytes w n) rest)) in
     rw (long, take_at (to_be_bytes w n) rest (byte_len w) size, drop_at (to_be_bytes w n) rest (byte_len w) size, wide.again n lt) refl
+
+-- ---- single bytes
+
+pub byte_takes : (field : ℕ) (bytes : List ℕ) (x : ℕ × List ℕ) → IsBytes bytes → byte_at field bytes ≡ Ok x → Takes bytes (x.0 ∷ []) x.1
+unfolding byte_at
+byte_takes field [] x fits e = absurd cc
+byte_takes field (b ∷ bytes) x fits e =
+    subst (λ (y : ℕ × List ℕ). Takes (b ∷ bytes) (y.0 ∷ []) y.1) (ok_is (b, bytes) x e)
+    (record { parts = refl; rest_fits = IsBytes-rest b bytes fits })
+
+pub byte_again : (field b : ℕ) (rest : List ℕ) → byte_at field (b ∷ rest) ≡ Ok (b, rest)
+unfolding byte_at
+byte_again field b rest = refl
 
 -- ---- texts
 

@@ -9,6 +9,7 @@ pub data Field : Type 0 where
   words : List ℕ → Field
   maybe_number : Option ℕ → Field
   maybe_words : Option (List ℕ) → Field
+  form : ℕ → Field
 
 -- eight bytes, the greatest place first
 unfoldable pub number_bytes : ℕ → List ℕ
@@ -28,6 +29,7 @@ spelled (number n) = number_bytes n
 spelled (words text) = text_bytes text
 spelled (maybe_number n) = maybe_bytes number_bytes n
 spelled (maybe_words text) = maybe_bytes text_bytes text
+spelled (form n) = n ∷ []
 
 -- the text is UTF-8 and not too long
 pub record IsText (text : List ℕ) : Type 0 where
@@ -40,6 +42,7 @@ IsField (number n) = n < 2 ^ 64
 IsField (words text) = IsText text
 IsField (maybe_number n) = IfSome n (λ m. m < 2 ^ 64)
 IsField (maybe_words text) = IfSome text IsText
+IsField (form n) = n < 2 ^ 8
 
 -- no text is too long for a field
 abbrev pub IsShort : Field → Type 0
@@ -47,3 +50,4 @@ IsShort (number n) = ⊤
 IsShort (words text) = length text ≤ longest_payload
 IsShort (maybe_number n) = ⊤
 IsShort (maybe_words text) = IfSome text (λ t. length t ≤ longest_payload)
+IsShort (form n) = ⊤

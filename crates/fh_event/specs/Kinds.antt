@@ -1,10 +1,13 @@
 -- The kinds of commands: the number of each, and its fields.
 use Rattle.std.specs.Prelude.{ℕ, ◌==◌, List, [], ◌∷◌, Option, find}
 use Rattle.fh_event.specs.declared.command.Command.{Command}
-use Rattle.fh_event.specs.declared.command.Command.TheVariants.{MakeQueue, Put, Take, Update, Delete, Clear, Peek, Locate}
+use Rattle.fh_event.specs.declared.command.Command.TheVariants.{MakeQueue, Put, Take, Update, Delete, Clear, PutBlob, DeleteBlob, Note, Acquire, RenewLease, ReleaseLease, Configure, Peek, GetBlob, Locate, Unnoted}
 use Rattle.fh_event.specs.declared.tables.FieldType.{FieldType}
-use Rattle.fh_event.specs.declared.tables.FieldType.TheVariants.{Number, Words, MaybeNumber, MaybeWords}
+use Rattle.fh_event.specs.declared.tables.FieldType.TheVariants.{Number, Words, MaybeNumber, MaybeWords, Settings}
+use Rattle.fh_event.specs.declared.settings.FunctionSettings.{FunctionSettings}
 use Rattle.fh_event.specs.Fields.{Field, number, words, maybe_number, maybe_words}
+use Rattle.fh_event.specs.Settings.{fields_of_settings}
+use Rattle.fh_event.specs.Tables.{Taking}
 
 pub data Kind : Type 0 where
   make_queue : Kind
@@ -13,8 +16,17 @@ pub data Kind : Type 0 where
   update : Kind
   delete : Kind
   clear : Kind
+  put_blob : Kind
+  delete_blob : Kind
+  note : Kind
+  acquire : Kind
+  renew_lease : Kind
+  release_lease : Kind
+  configure : Kind
   peek : Kind
+  get_blob : Kind
   locate : Kind
+  unnoted : Kind
 
 -- the byte by which entries name the kind
 abbrev pub kind_number : Kind → ℕ
@@ -24,8 +36,17 @@ kind_number take = 3
 kind_number update = 4
 kind_number delete = 5
 kind_number clear = 6
+kind_number put_blob = 7
+kind_number delete_blob = 8
+kind_number note = 9
+kind_number acquire = 10
+kind_number renew_lease = 11
+kind_number release_lease = 12
+kind_number configure = 13
 kind_number peek = 21
+kind_number get_blob = 22
 kind_number locate = 23
+kind_number unnoted = 24
 
 abbrev pub kind_of : Command → Kind
 kind_of (MakeQueue queue) = make_queue
@@ -34,8 +55,17 @@ kind_of (Take queue count hold) = take
 kind_of (Update queue n receipt hold text) = update
 kind_of (Delete queue n receipt) = delete
 kind_of (Clear queue) = clear
+kind_of (PutBlob container blob text) = put_blob
+kind_of (DeleteBlob container blob) = delete_blob
+kind_of (Note function container blob) = note
+kind_of (Acquire lease holder seconds) = acquire
+kind_of (RenewLease lease holder) = renew_lease
+kind_of (ReleaseLease lease holder) = release_lease
+kind_of (Configure function settings) = configure
 kind_of (Peek queue count) = peek
+kind_of (GetBlob container blob) = get_blob
 kind_of (Locate n) = locate
+kind_of (Unnoted function container) = unnoted
 
 -- the command's fields in order
 abbrev pub fields_of : Command → List Field
@@ -45,11 +75,22 @@ fields_of (Take queue count hold) = words queue ∷ number count ∷ number hold
 fields_of (Update queue n receipt hold text) = words queue ∷ number n ∷ number receipt ∷ number hold ∷ maybe_words text ∷ []
 fields_of (Delete queue n receipt) = words queue ∷ number n ∷ number receipt ∷ []
 fields_of (Clear queue) = words queue ∷ []
+fields_of (PutBlob container blob text) = words container ∷ words blob ∷ words text ∷ []
+fields_of (DeleteBlob container blob) = words container ∷ words blob ∷ []
+fields_of (Note function container blob) = words function ∷ words container ∷ words blob ∷ []
+fields_of (Acquire lease holder seconds) = words lease ∷ number holder ∷ number seconds ∷ []
+fields_of (RenewLease lease holder) = words lease ∷ number holder ∷ []
+fields_of (ReleaseLease lease holder) = words lease ∷ number holder ∷ []
+fields_of (Configure function settings) = words function ∷ fields_of_settings settings
 fields_of (Peek queue count) = words queue ∷ number count ∷ []
+fields_of (GetBlob container blob) = words container ∷ words blob ∷ []
 fields_of (Locate n) = number n ∷ []
+fields_of (Unnoted function container) = words function ∷ words container ∷ []
 
 abbrev pub all_kinds : List Kind
-all_kinds = make_queue ∷ put ∷ take ∷ update ∷ delete ∷ clear ∷ peek ∷ locate ∷ []
+all_kinds =
+    make_queue ∷ put ∷ take ∷ update ∷ delete ∷ clear ∷ put_blob ∷ delete_blob ∷ note ∷ acquire ∷ renew_lease ∷ release_lease
+    ∷ configure ∷ peek ∷ get_blob ∷ locate ∷ unnoted ∷ []
 
 -- the kind of this number
 unfoldable pub kind_at : ℕ → Option Kind
@@ -63,8 +104,17 @@ types_of take = Words ∷ Number ∷ Number ∷ []
 types_of update = Words ∷ Number ∷ Number ∷ Number ∷ MaybeWords ∷ []
 types_of delete = Words ∷ Number ∷ Number ∷ []
 types_of clear = Words ∷ []
+types_of put_blob = Words ∷ Words ∷ Words ∷ []
+types_of delete_blob = Words ∷ Words ∷ []
+types_of note = Words ∷ Words ∷ Words ∷ []
+types_of acquire = Words ∷ Number ∷ Number ∷ []
+types_of renew_lease = Words ∷ Number ∷ []
+types_of release_lease = Words ∷ Number ∷ []
+types_of configure = Words ∷ Settings ∷ []
 types_of peek = Words ∷ Number ∷ []
+types_of get_blob = Words ∷ Words ∷ []
 types_of locate = Number ∷ []
+types_of unnoted = Words ∷ Words ∷ []
 
 -- what a field of the type holds
 abbrev pub Held : FieldType → Type 0
@@ -72,19 +122,24 @@ Held Number = ℕ
 Held Words = List ℕ
 Held MaybeNumber = Option ℕ
 Held MaybeWords = Option (List ℕ)
-
--- a command that still takes fields of these types
-abbrev pub Taking : List FieldType → Type 0
-Taking [] = Command
-Taking (t ∷ types) = Held t → Taking types
+Held Settings = FunctionSettings
 
 -- the command of the kind with its fields
-abbrev pub made : (kind : Kind) → Taking (types_of kind)
+abbrev pub made : (kind : Kind) → Taking Held Command (types_of kind)
 made make_queue = λ queue. MakeQueue queue
 made put = λ queue delay ttl text. Put queue delay ttl text
 made take = λ queue count hold. Take queue count hold
 made update = λ queue n receipt hold text. Update queue n receipt hold text
 made delete = λ queue n receipt. Delete queue n receipt
 made clear = λ queue. Clear queue
+made put_blob = λ container blob text. PutBlob container blob text
+made delete_blob = λ container blob. DeleteBlob container blob
+made note = λ function container blob. Note function container blob
+made acquire = λ lease holder seconds. Acquire lease holder seconds
+made renew_lease = λ lease holder. RenewLease lease holder
+made release_lease = λ lease holder. ReleaseLease lease holder
+made configure = λ function settings. Configure function settings
 made peek = λ queue count. Peek queue count
+made get_blob = λ container blob. GetBlob container blob
 made locate = λ n. Locate n
+made unnoted = λ function container. Unnoted function container

@@ -1,4 +1,6 @@
 pub mod Fields
+pub mod Tables
+pub mod Settings
 pub mod Kinds
 pub mod Entries
 pub mod Judging

@@ -11,7 +11,7 @@ use Rattle.fh_event.specs.declared.reply.Item.{Item}
 use Rattle.fh_event.specs.declared.reply.Place.{Place}
 use Rattle.fh_event.specs.declared.reply.Place.TheVariants.{Waiting, Held, Deleted as PlaceDeleted, Completed, Moved, Expired, Unknown}
 use Rattle.fh_event.specs.declared.reply.Reply.{Reply}
-use Rattle.fh_event.specs.declared.reply.Reply.TheVariants.{Made, There, Stored, Taken, Empty, Updated, Deleted, Cleared, Peeked, Located}
+use Rattle.fh_event.specs.declared.reply.Reply.TheVariants.{Made, There, Stored, Taken, Empty, Updated, Deleted, Cleared, BlobStored, BlobDeleted, Noted, NotedBefore, Acquired, Renewed, Released, Configured, Same, Peeked, Got, Located, Unnoted}
 
 -- a control character, a space, a percent sign, or a byte outside ASCII
 abbrev pub is_escaped : ℕ → Bool
@@ -61,6 +61,10 @@ taken_item item =
 abbrev pub peeked_item : Item → List ℕ
 peeked_item item = spaced item.number ++ codes ":" ++ decimal item.count ++ codes ":" ++ escaped item.text
 
+-- one of the names that a reading lists
+abbrev pub listed_name : List ℕ → List ℕ
+listed_name name = codes " " ++ escaped name
+
 abbrev pub place_line : Place → List ℕ
 place_line (Waiting queue) = codes "is waiting " ++ escaped queue
 place_line (Held queue until) = codes "is held " ++ escaped queue ++ spaced until
@@ -79,8 +83,19 @@ reply_line Empty = codes "quiet empty"
 reply_line (Updated receipt) = codes "ok" ++ spaced receipt
 reply_line Deleted = codes "ok"
 reply_line (Cleared count) = codes "ok" ++ spaced count
+reply_line (BlobStored version) = codes "ok" ++ spaced version
+reply_line BlobDeleted = codes "ok"
+reply_line (Noted n) = codes "ok" ++ spaced n
+reply_line NotedBefore = codes "quiet noted"
+reply_line (Acquired until) = codes "ok" ++ spaced until
+reply_line (Renewed until) = codes "ok" ++ spaced until
+reply_line Released = codes "ok"
+reply_line (Configured n) = codes "ok" ++ spaced n
+reply_line Same = codes "quiet same"
 reply_line (Peeked items) = codes "is" ++ spaced (length items) ++ flat_map peeked_item items
+reply_line (Got version text) = codes "is" ++ spaced version ++ codes " " ++ escaped text
 reply_line (Located place) = place_line place
+reply_line (Unnoted blobs) = codes "is" ++ spaced (length blobs) ++ flat_map listed_name blobs
 
 abbrev pub answer_line : Result (Bor Reply) (Bor Rule) → List ℕ
 answer_line (Ok reply) = reply_line reply.now

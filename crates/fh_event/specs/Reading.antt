@@ -8,10 +8,17 @@ use Rattle.fh_event.specs.declared.command.Command.{Command}
 use Rattle.fh_event.specs.declared.faults.EventFault.{EventFault}
 use Rattle.fh_event.specs.declared.faults.EventFault.TheVariants.{BadKind, ShortField, LongField, BadField, Trailing}
 use Rattle.fh_event.specs.declared.tables.FieldType.{FieldType}
-use Rattle.fh_event.specs.declared.tables.FieldType.TheVariants.{Number, Words, MaybeNumber, MaybeWords}
+use Rattle.fh_event.specs.declared.tables.FieldType.TheVariants.{Number, Words, MaybeNumber, MaybeWords, Settings}
 use Rattle.fh_event.specs.Answers.{◌>>=◌}
 use Rattle.fh_base.specs.Limits.{longest_payload}
-use Rattle.fh_event.specs.Kinds.{Kind, kind_at, types_of, Held, Taking, made}
+use Rattle.fh_event.specs.declared.settings.FunctionSettings.{FunctionSettings}
+use Rattle.fh_event.specs.Tables.{Taking}
+use Rattle.fh_event.specs.Settings.{Form, form_at, PlainType, number_type, words_type, HeldPlain, types_of_form, made_settings}
+use Rattle.fh_event.specs.Kinds.{Kind, kind_at, types_of, Held, made}
+
+unfoldable pub byte_at : ℕ → List ℕ → Result (ℕ × List ℕ) EventFault
+byte_at field [] = Err (ShortField field)
+byte_at field (byte ∷ rest) = Ok (byte, rest)
 
 abbrev pub number_at : Width → ℕ → List ℕ → Result (ℕ × List ℕ) EventFault
 number_at w field bytes =
@@ -45,20 +52,35 @@ behind_flag reader true rest = reader rest >>= λ x. Ok (Some x.0, x.1)
 unfoldable pub maybe_at : {X : Type 0} → (List ℕ → Result (X × List ℕ) EventFault) → ℕ → List ℕ → Result (Option X × List ℕ) EventFault
 maybe_at reader field bytes = flag_at field bytes >>= λ flag. behind_flag reader flag.0 flag.1
 
+-- the fields of these types in order: the number of each is that of the one before with a step
+abbrev pub taken_at : {T X : Type 0} {Held : T → Type 0} → ((type : T) → ℕ → List ℕ → Result (Held type × List ℕ) EventFault)
+    → ℕ → (types : List T) → Taking Held X types → ℕ → List ℕ → Result (X × List ℕ) EventFault
+taken_at held step [] value field bytes = Ok (value, bytes)
+taken_at held step (type ∷ types) taking field bytes =
+    held type field bytes >>= λ x. taken_at held step types (taking x.0) (field + step) x.1
+
+abbrev pub plain_at : (type : PlainType) → ℕ → List ℕ → Result (HeldPlain type × List ℕ) EventFault
+plain_at number_type field bytes = number_at w64 field bytes
+plain_at words_type field bytes = text_at field bytes
+
+abbrev pub settings_of_form : ℕ → Option Form → List ℕ → Result (FunctionSettings × List ℕ) EventFault
+settings_of_form field None bytes = Err (BadField field)
+settings_of_form field (Some form) bytes = taken_at plain_at 0 (types_of_form form) (made_settings form) field bytes
+
+-- the byte of a form, and the fields of that form, which all have the number of this field
+unfoldable pub settings_at : ℕ → List ℕ → Result (FunctionSettings × List ℕ) EventFault
+settings_at field bytes = byte_at field bytes >>= λ form. settings_of_form field (form_at form.0) form.1
+
 abbrev pub held_at : (type : FieldType) → ℕ → List ℕ → Result (Held type × List ℕ) EventFault
 held_at Number field bytes = number_at w64 field bytes
 held_at Words field bytes = text_at field bytes
 held_at MaybeNumber field bytes = maybe_at (number_at w64 field) field bytes
 held_at MaybeWords field bytes = maybe_at (text_at field) field bytes
-
--- the fields of these types in order, counted on from a first
-abbrev pub taken_at : (types : List FieldType) → Taking types → ℕ → List ℕ → Result (Command × List ℕ) EventFault
-taken_at [] command field bytes = Ok (command, bytes)
-taken_at (type ∷ types) taking field bytes = held_at type field bytes >>= λ x. taken_at types (taking x.0) (field + 1) x.1
+held_at Settings field bytes = settings_at field bytes
 
 abbrev pub command_of_kind : ℕ → Option Kind → List ℕ → Result (Command × List ℕ) EventFault
 command_of_kind n None bytes = Err (BadKind n)
-command_of_kind n (Some kind) bytes = taken_at (types_of kind) (made kind) 1 bytes
+command_of_kind n (Some kind) bytes = taken_at held_at 1 (types_of kind) (made kind) 1 bytes
 
 -- the command of the kind of this number
 unfoldable pub command_at : ℕ → List ℕ → Result (Command × List ℕ) EventFault
@@ -69,14 +91,10 @@ moment_at bytes = do
   n ← number_at w64 0 bytes
   if nat_lt greatest_moment n.0 then Err (BadField 0) else Ok n
 
-unfoldable pub kind_byte_at : List ℕ → Result (ℕ × List ℕ) EventFault
-kind_byte_at [] = Err (ShortField 0)
-kind_byte_at (kind ∷ rest) = Ok (kind, rest)
-
 -- all of the bytes
 unfoldable pub entry_read : List ℕ → Result (ℕ × Command) EventFault
 entry_read bytes = do
   moment ← moment_at bytes
-  kind ← kind_byte_at moment.1
+  kind ← byte_at 0 moment.1
   command ← command_at kind.0 kind.1
   if length command.1 == 0 then Ok (moment.0, command.0) else Err (Trailing (length command.1))

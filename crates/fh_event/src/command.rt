@@ -1,8 +1,9 @@
 // Commands.
+use crate::settings::FunctionSettings;
 use fh_base::Text;
 
 /// What a caller asks of the store. Names are texts here: the machine judges them. Delays, times to live
-/// and holds are in seconds. docs/commands.md has each command's effect and answers.
+/// and holds are in seconds, and so is a lease's length. docs/commands.md has each command's effect and answers.
 #[derive(Debug, Drop)]
 pub enum Command {
     /// Makes a queue.
@@ -40,13 +41,61 @@ pub enum Command {
     Clear {
         queue: Text,
     },
+    /// Stores a text under a new version.
+    PutBlob {
+        container: Text,
+        blob: Text,
+        text: Text,
+    },
+    /// Removes a blob.
+    DeleteBlob {
+        container: Text,
+        blob: Text,
+    },
+    /// Makes a blob function's message for the current version of a blob, once for each version.
+    Note {
+        function: Text,
+        container: Text,
+        blob: Text,
+    },
+    /// Makes the holder hold a lease.
+    Acquire {
+        lease: Text,
+        holder: u64,
+        seconds: u64,
+    },
+    /// Makes its last holder hold a lease anew.
+    RenewLease {
+        lease: Text,
+        holder: u64,
+    },
+    /// Ends a lease.
+    ReleaseLease {
+        lease: Text,
+        holder: u64,
+    },
+    /// Gives a function its settings.
+    Configure {
+        function: Text,
+        settings: FunctionSettings,
+    },
     /// Reads the first visible messages.
     Peek {
         queue: Text,
         count: u64,
     },
+    /// Reads a blob.
+    GetBlob {
+        container: Text,
+        blob: Text,
+    },
     /// Reads where a message is.
     Locate {
         number: u64,
+    },
+    /// Reads which blobs of a container a blob function hasn't noted as they are.
+    Unnoted {
+        function: Text,
+        container: Text,
     },
 }

@@ -14,6 +14,7 @@ mod laws;
 mod lines;
 mod reading;
 mod reply;
+mod settings;
 mod sizes;
 mod tables;
 mod writing;
@@ -24,8 +25,12 @@ pub use laws::{entries_have_one_reading, tables_are_those_of_the_grammar};
 pub use lines::answer_text;
 pub use reading::decode;
 pub use reply::{Item, Items, Place, Reply};
+pub use settings::FunctionSettings;
 pub use sizes::entry_size;
-pub use tables::{CLEAR, DELETE, FieldType, LOCATE, MAKE_QUEUE, PEEK, PUT, TAKE, Table, UPDATE};
+pub use tables::{
+    ACQUIRE, CLEAR, CONFIGURE, DELETE, DELETE_BLOB, FieldType, GET_BLOB, LOCATE, MAKE_QUEUE, NOTE,
+    PEEK, PUT, PUT_BLOB, RELEASE_LEASE, RENEW_LEASE, TAKE, Table, UNNOTED, UPDATE,
+};
 pub use writing::encode;
 
 #[cfg(test)]

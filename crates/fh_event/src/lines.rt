@@ -2,10 +2,10 @@
 ghost use Rattle.std.specs.Prelude.{◌≡◌, ◌++◌, length, IfOk, OnOk};
 ghost use Rattle.std.specs.List.{flat_map};
 ghost use Rattle.std.specs.String.{string_bytes};
-ghost use Rattle.fh_event.specs.Lines.{escaped, rule_values, rule_line, taken_item, peeked_item, place_line, reply_line, answer_line};
+ghost use Rattle.fh_event.specs.Lines.{escaped, rule_values, rule_line, taken_item, peeked_item, listed_name, place_line, reply_line, answer_line};
 
 use crate::reply::{Item, Place, Reply};
-use fh_base::{NoMemory, Rule};
+use fh_base::{NoMemory, Rule, Text};
 use percent_encoding::{AsciiSet, CONTROLS, ascii_set, percent_encode};
 use std::alloc::Global;
 
@@ -65,7 +65,7 @@ fn push_reply(line: &mut String, reply: &Reply) -> Result<(), NoMemory>
     ensures { OnOk result (string_bytes line.new ≡ string_bytes line.old ++ reply_line reply.now) }
 {
     match reply {
-        Reply::Made | Reply::Deleted => line.push_str("ok")?,
+        Reply::Made | Reply::Deleted | Reply::BlobDeleted | Reply::Released => line.push_str("ok")?,
         Reply::There => line.push_str("quiet there")?,
         Reply::Stored { number, receipt } => write!(line, "ok {number} {receipt}")?,
         Reply::Taken { items } => {
@@ -83,9 +83,43 @@ fn push_reply(line: &mut String, reply: &Reply) -> Result<(), NoMemory>
             write!(line, "is {count}")?;
             push_peeked(line, items)?;
         }
+        Reply::BlobStored { version } => write!(line, "ok {version}")?,
+        Reply::Noted { number } => write!(line, "ok {number}")?,
+        Reply::NotedBefore => line.push_str("quiet noted")?,
+        Reply::Acquired { until } => write!(line, "ok {until}")?,
+        Reply::Renewed { until } => write!(line, "ok {until}")?,
+        Reply::Configured { number } => write!(line, "ok {number}")?,
+        Reply::Same => line.push_str("quiet same")?,
+        Reply::Got { version, text } => {
+            write!(line, "is {version} ")?;
+            push_escaped(line, text.as_str().as_bytes())?;
+        }
         Reply::Located { place } => push_place(line, place)?,
+        Reply::Unnoted { blobs } => {
+            let blobs = blobs.as_slice();
+            let count = blobs.len();
+            write!(line, "is {count}")?;
+            push_names(line, blobs)?;
+        }
     }
     Ok(())
+}
+
+fn push_names(line: &mut String, names: &[Text]) -> Result<(), NoMemory>
+    ensures { OnOk result (string_bytes line.new ≡ string_bytes line.old ++ flat_map listed_name names.now) }
+{
+    for name in names {
+        push_name(line, name)?;
+    }
+    Ok(())
+}
+
+#[tactic(auto, using(crate::proofs::Joining::joining))]
+fn push_name(line: &mut String, name: &Text) -> Result<(), NoMemory>
+    ensures { OnOk result (string_bytes line.new ≡ string_bytes line.old ++ listed_name name.now) }
+{
+    line.push_str(" ")?;
+    push_escaped(line, name.as_str().as_bytes())
 }
 
 #[tactic(auto, using(crate::proofs::Joining::joining))]

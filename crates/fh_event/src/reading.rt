@@ -2,12 +2,16 @@
 ghost use Rattle.std.specs.Prelude.{ℕ, Ok, IfOk};
 ghost use Rattle.std.specs.Int.{w32, w64};
 ghost use Rattle.fh_event.specs.Answers.{Gives};
-ghost use Rattle.fh_event.specs.Reading.{number_at, text_at, flag_at, maybe_at, command_at, kind_byte_at, entry_read};
+ghost use Rattle.fh_event.specs.Reading.{byte_at, number_at, text_at, flag_at, maybe_at, settings_at, command_at, entry_read};
 ghost use Rattle.fh_event.specs.Entries.{IsEntry};
 
 use crate::command::Command;
 use crate::faults::EventFault;
-use crate::tables::{clear, delete, locate, make_queue, peek, put, take, update};
+use crate::settings::FunctionSettings;
+use crate::tables::{
+    acquire, blob_settings, clear, configure, delete, delete_blob, get_blob, locate, make_queue,
+    note, peek, put, put_blob, queue_settings, release_lease, renew_lease, take, unnoted, update,
+};
 use fh_base::{LONGEST_PAYLOAD, Moment, Text, utf8_text};
 use std::alloc::Global;
 
@@ -23,6 +27,16 @@ pub fn decode(alloc: Global, bytes: &[u8]) -> Result<(Moment, Command), EventFau
     ensures fault { Gives (λ x. x) result (entry_read bytes.now) }
 {
     entry_of(alloc, bytes)
+}
+
+#[tactic(auto, unfolding(crate::specs::Reading::byte_at))]
+fn byte_of(field: u8, bytes: &[u8]) -> Result<(u8, &[u8]), EventFault>
+    ensures { Gives (λ x. (x.0, x.1.now)) result (byte_at field bytes.now) }
+{
+    match bytes {
+        [] => Err(EventFault::ShortField { field }),
+        [byte, rest @ ..] => Ok((*byte, rest)),
+    }
 }
 
 fn length_of(field: u8, bytes: &[u8]) -> Result<(u32, &[u8]), EventFault>
@@ -108,11 +122,11 @@ fn maybe_text_of(
     Ok((Some(text), rest))
 }
 
-// Reads the fields of a table in order, and makes the command of them.
+// Reads the fields of a table in order, and makes the value of them.
 macro_rules! reader {
-    ([$alloc:ident $rest:ident] $kind:literal $variant:ident { $($field:literal $name:ident: $type:ident),* }) => {{
+    ([$of:ident $alloc:ident $rest:ident] $kind:literal $variant:ident { $($field:literal $name:ident: $type:ident),* }) => {{
         $(let ($name, $rest) = held!($type $alloc $field $rest)?;)*
-        Ok((Command::$variant { $($name),* }, $rest))
+        Ok(($of::$variant { $($name),* }, $rest))
     }};
 }
 
@@ -121,6 +135,24 @@ macro_rules! held {
     (Words $alloc:ident $field:literal $rest:ident) => { text_of($alloc, $field, $rest) };
     (MaybeNumber $alloc:ident $field:literal $rest:ident) => { maybe_number_of($field, $rest) };
     (MaybeWords $alloc:ident $field:literal $rest:ident) => { maybe_text_of($alloc, $field, $rest) };
+    (Settings $alloc:ident $field:literal $rest:ident) => { settings_of($alloc, $rest) };
+}
+
+// The field of a command that holds the settings of a function.
+const SETTINGS_FIELD: u8 = 2;
+
+#[tactic(auto, unfolding(crate::specs::Reading::settings_at, crate::specs::Settings::form_at))]
+fn settings_of(alloc: Global, bytes: &[u8]) -> Result<(FunctionSettings, &[u8]), EventFault>
+    ensures { Gives (λ x. (x.0, x.1.now)) result (settings_at 2 bytes.now) }
+{
+    let (form, rest) = byte_of(SETTINGS_FIELD, bytes)?;
+    match form {
+        1 => queue_settings!(reader FunctionSettings alloc rest),
+        2 => blob_settings!(reader FunctionSettings alloc rest),
+        _ => Err(EventFault::BadField {
+            field: SETTINGS_FIELD,
+        }),
+    }
 }
 
 #[tactic(auto, unfolding(crate::specs::Reading::command_at, crate::specs::Kinds::kind_at))]
@@ -128,25 +160,24 @@ fn command_of(alloc: Global, kind: u8, rest: &[u8]) -> Result<(Command, &[u8]), 
     ensures { Gives (λ x. (x.0, x.1.now)) result (command_at kind rest.now) }
 {
     match kind {
-        1 => make_queue!(reader alloc rest),
-        2 => put!(reader alloc rest),
-        3 => take!(reader alloc rest),
-        4 => update!(reader alloc rest),
-        5 => delete!(reader alloc rest),
-        6 => clear!(reader alloc rest),
-        21 => peek!(reader alloc rest),
-        23 => locate!(reader alloc rest),
+        1 => make_queue!(reader Command alloc rest),
+        2 => put!(reader Command alloc rest),
+        3 => take!(reader Command alloc rest),
+        4 => update!(reader Command alloc rest),
+        5 => delete!(reader Command alloc rest),
+        6 => clear!(reader Command alloc rest),
+        7 => put_blob!(reader Command alloc rest),
+        8 => delete_blob!(reader Command alloc rest),
+        9 => note!(reader Command alloc rest),
+        10 => acquire!(reader Command alloc rest),
+        11 => renew_lease!(reader Command alloc rest),
+        12 => release_lease!(reader Command alloc rest),
+        13 => configure!(reader Command alloc rest),
+        21 => peek!(reader Command alloc rest),
+        22 => get_blob!(reader Command alloc rest),
+        23 => locate!(reader Command alloc rest),
+        24 => unnoted!(reader Command alloc rest),
         _ => Err(EventFault::BadKind { kind }),
-    }
-}
-
-#[tactic(auto, unfolding(crate::specs::Reading::kind_byte_at))]
-fn kind_byte_of(bytes: &[u8]) -> Result<(u8, &[u8]), EventFault>
-    ensures { Gives (λ x. (x.0, x.1.now)) result (kind_byte_at bytes.now) }
-{
-    match bytes {
-        [] => Err(EventFault::ShortField { field: 0 }),
-        [kind, rest @ ..] => Ok((*kind, rest)),
     }
 }
 
@@ -158,7 +189,7 @@ fn entry_of(alloc: Global, bytes: &[u8]) -> Result<(Moment, Command), EventFault
     let Some(moment) = Moment::new(ms) else {
         return Err(EventFault::BadField { field: 0 });
     };
-    let (kind, rest) = kind_byte_of(rest)?;
+    let (kind, rest) = byte_of(0, rest)?;
     let (command, rest) = command_of(alloc, kind, rest)?;
     if !rest.is_empty() {
         return Err(EventFault::Trailing {

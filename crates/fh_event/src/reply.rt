@@ -1,7 +1,7 @@
 // Replies.
 ghost use Rattle.std.specs.Prelude.{◌≡◌};
 
-use fh_base::{QueueName, Text};
+use fh_base::{QueueName, Text, Texts};
 use std::marker::Model;
 
 /// A message as `Taken` and `Peeked` list it. `receipt` is the newest one.
@@ -87,8 +87,30 @@ pub enum Reply {
     Deleted,
     /// So many messages were removed.
     Cleared { count: u64 },
+    /// The blob has that version.
+    BlobStored { version: u64 },
+    /// The blob was removed.
+    BlobDeleted,
+    /// The blob function has that message for this version of the blob.
+    Noted { number: u64 },
+    /// Quiet: the function noted this version before.
+    NotedBefore,
+    /// The holder holds the lease until that moment, in milliseconds.
+    Acquired { until: u64 },
+    /// The lease goes on until that moment, in milliseconds.
+    Renewed { until: u64 },
+    /// The lease is nobody's.
+    Released,
+    /// The function has that number, and these settings now.
+    Configured { number: u64 },
+    /// Quiet: the function has these settings.
+    Same,
     /// A reading: the first visible messages.
     Peeked { items: Items },
+    /// A reading: the blob as it is.
+    Got { version: u64, text: Text },
     /// A reading: where the message is.
     Located { place: Place },
+    /// A reading: the names of the blobs that the function hasn't noted as they are.
+    Unnoted { blobs: Texts },
 }

@@ -3,11 +3,17 @@ ghost use Rattle.std.specs.Prelude.{◌≡◌, ℕ, ◌-◌, ◌≤◌, ◌^◌,
 ghost use Rattle.std.specs.List.{flat_map};
 ghost use Rattle.fh_base.specs.Limits.{longest_payload};
 ghost use Rattle.fh_event.specs.Fields.{number_bytes, text_bytes, maybe_bytes, spelled};
+ghost use Rattle.fh_event.specs.Settings.{fields_of_settings};
 ghost use Rattle.fh_event.specs.Kinds.{fields_of};
 ghost use Rattle.fh_event.specs.Entries.{entry, HasShortTexts};
 
 use crate::command::Command;
-use crate::tables::{clear, delete, locate, make_queue, of_command, peek, put, take, update};
+use crate::settings::FunctionSettings;
+use crate::tables::{
+    acquire, blob_settings, clear, configure, delete, delete_blob, get_blob, locate, make_queue,
+    note, of_command, of_settings, peek, put, put_blob, queue_settings, release_lease, renew_lease,
+    take, unnoted, update,
+};
 use fh_base::Text;
 
 /// What an entry has before its fields: the moment, and the kind.
@@ -18,6 +24,9 @@ const NUMBER: u64 = 8;
 
 /// The bytes of a text's length.
 const LENGTH: u64 = 4;
+
+/// The byte that names the form of settings.
+const FORM: u64 = 1;
 
 /// The number of bytes of the command's entry, which is the same at each moment. One above 2^64 - 1 is
 /// given as 2^64 - 1.
@@ -31,8 +40,8 @@ pub fn entry_size(command: &Command) -> u64
 
 // Adds up the sizes of the fields of a table.
 macro_rules! sizer {
-    ([$command:ident] $kind:literal $variant:ident { $($field:literal $name:ident: $type:ident),* }) => {{
-        let Command::$variant { $($name),* } = $command else {
+    ([$of:ident $value:ident] $kind:literal $variant:ident { $($field:literal $name:ident: $type:ident),* }) => {{
+        let $of::$variant { $($name),* } = $value else {
             unreachable!()
         };
         let size = 0u64;
@@ -46,13 +55,21 @@ macro_rules! held_size {
     (Words $name:ident) => { text_size($name) };
     (MaybeNumber $name:ident) => { maybe_number_size($name) };
     (MaybeWords $name:ident) => { maybe_text_size($name) };
+    (Settings $name:ident) => { settings_size($name) };
 }
 
 #[tactic(auto, using(crate::proofs::EntrySizes::adding))]
 fn fields_size(command: &Command) -> u64
     ensures { result ≡ min (length (flat_map spelled (fields_of command.now))) (2 ^ 64 - 1) }
 {
-    of_command!(command sizer command)
+    of_command!(command sizer Command command)
+}
+
+#[tactic(auto, using(crate::proofs::EntrySizes::adding))]
+fn settings_size(settings: &FunctionSettings) -> u64
+    ensures { result ≡ min (length (flat_map spelled (fields_of_settings settings.now))) (2 ^ 64 - 1) }
+{
+    FORM.saturating_add(of_settings!(settings sizer FunctionSettings settings))
 }
 
 #[tactic(auto, unfolding(crate::specs::Fields::number_bytes))]

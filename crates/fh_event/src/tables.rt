@@ -11,6 +11,8 @@ pub enum FieldType {
     MaybeNumber,
     /// A byte 0, or a byte 1 and a text.
     MaybeWords,
+    /// A byte that names the form of a function's settings, and the fields of that form.
+    Settings,
 }
 
 /// One kind of command: its number, and the types of its fields in order.
@@ -55,12 +57,71 @@ macro_rules! clear {
     ($with:ident $($args:tt)*) => { $with!([$($args)*] 6 Clear { 1 queue: Words }) };
 }
 
+macro_rules! put_blob {
+    ($with:ident $($args:tt)*) => {
+        $with!([$($args)*] 7 PutBlob { 1 container: Words, 2 blob: Words, 3 text: Words })
+    };
+}
+
+macro_rules! delete_blob {
+    ($with:ident $($args:tt)*) => { $with!([$($args)*] 8 DeleteBlob { 1 container: Words, 2 blob: Words }) };
+}
+
+macro_rules! note {
+    ($with:ident $($args:tt)*) => {
+        $with!([$($args)*] 9 Note { 1 function: Words, 2 container: Words, 3 blob: Words })
+    };
+}
+
+macro_rules! acquire {
+    ($with:ident $($args:tt)*) => {
+        $with!([$($args)*] 10 Acquire { 1 lease: Words, 2 holder: Number, 3 seconds: Number })
+    };
+}
+
+macro_rules! renew_lease {
+    ($with:ident $($args:tt)*) => { $with!([$($args)*] 11 RenewLease { 1 lease: Words, 2 holder: Number }) };
+}
+
+macro_rules! release_lease {
+    ($with:ident $($args:tt)*) => { $with!([$($args)*] 12 ReleaseLease { 1 lease: Words, 2 holder: Number }) };
+}
+
+macro_rules! configure {
+    ($with:ident $($args:tt)*) => { $with!([$($args)*] 13 Configure { 1 function: Words, 2 settings: Settings }) };
+}
+
 macro_rules! peek {
     ($with:ident $($args:tt)*) => { $with!([$($args)*] 21 Peek { 1 queue: Words, 2 count: Number }) };
 }
 
+macro_rules! get_blob {
+    ($with:ident $($args:tt)*) => { $with!([$($args)*] 22 GetBlob { 1 container: Words, 2 blob: Words }) };
+}
+
 macro_rules! locate {
     ($with:ident $($args:tt)*) => { $with!([$($args)*] 23 Locate { 1 number: Number }) };
+}
+
+macro_rules! unnoted {
+    ($with:ident $($args:tt)*) => { $with!([$($args)*] 24 Unnoted { 1 function: Words, 2 container: Words }) };
+}
+
+// The forms of a function's settings. Their fields have the number of the field of the command that holds them.
+macro_rules! queue_settings {
+    ($with:ident $($args:tt)*) => {
+        $with!([$($args)*] 1 Queue {
+            2 queue: Words, 2 batch: Number, 2 threshold: Number, 2 limit: Number, 2 retry: Number, 2 singleton: Number
+        })
+    };
+}
+
+macro_rules! blob_settings {
+    ($with:ident $($args:tt)*) => {
+        $with!([$($args)*] 2 Blob {
+            2 batch: Number, 2 threshold: Number, 2 limit: Number, 2 retry: Number, 2 singleton: Number
+        })
+    };
 }
 
 // Hands the table of a command's kind to the macro of that name, as above.
@@ -73,8 +134,27 @@ macro_rules! of_command {
             Command::Update { .. } => update!($with $($args)*),
             Command::Delete { .. } => delete!($with $($args)*),
             Command::Clear { .. } => clear!($with $($args)*),
+            Command::PutBlob { .. } => put_blob!($with $($args)*),
+            Command::DeleteBlob { .. } => delete_blob!($with $($args)*),
+            Command::Note { .. } => note!($with $($args)*),
+            Command::Acquire { .. } => acquire!($with $($args)*),
+            Command::RenewLease { .. } => renew_lease!($with $($args)*),
+            Command::ReleaseLease { .. } => release_lease!($with $($args)*),
+            Command::Configure { .. } => configure!($with $($args)*),
             Command::Peek { .. } => peek!($with $($args)*),
+            Command::GetBlob { .. } => get_blob!($with $($args)*),
             Command::Locate { .. } => locate!($with $($args)*),
+            Command::Unnoted { .. } => unnoted!($with $($args)*),
+        }
+    };
+}
+
+// Hands the table of the form of settings to the macro of that name, as above.
+macro_rules! of_settings {
+    ($settings:ident $with:ident $($args:tt)*) => {
+        match $settings {
+            FunctionSettings::Queue { .. } => queue_settings!($with $($args)*),
+            FunctionSettings::Blob { .. } => blob_settings!($with $($args)*),
         }
     };
 }
@@ -83,15 +163,27 @@ macro_rules! kind {
     ([] $kind:literal $variant:ident { $($field:literal $name:ident: $type:ident),* }) => { $kind };
 }
 
+pub(crate) use acquire;
+pub(crate) use blob_settings;
 pub(crate) use clear;
+pub(crate) use configure;
 pub(crate) use delete;
+pub(crate) use delete_blob;
+pub(crate) use get_blob;
 pub(crate) use kind;
 pub(crate) use locate;
 pub(crate) use make_queue;
+pub(crate) use note;
 pub(crate) use of_command;
+pub(crate) use of_settings;
 pub(crate) use peek;
 pub(crate) use put;
+pub(crate) use put_blob;
+pub(crate) use queue_settings;
+pub(crate) use release_lease;
+pub(crate) use renew_lease;
 pub(crate) use take;
+pub(crate) use unnoted;
 pub(crate) use update;
 
 macro_rules! table {
@@ -112,6 +204,24 @@ pub const DELETE: Table<3> = delete!(table);
 
 pub const CLEAR: Table<1> = clear!(table);
 
+pub const PUT_BLOB: Table<3> = put_blob!(table);
+
+pub const DELETE_BLOB: Table<2> = delete_blob!(table);
+
+pub const NOTE: Table<3> = note!(table);
+
+pub const ACQUIRE: Table<3> = acquire!(table);
+
+pub const RENEW_LEASE: Table<2> = renew_lease!(table);
+
+pub const RELEASE_LEASE: Table<2> = release_lease!(table);
+
+pub const CONFIGURE: Table<2> = configure!(table);
+
 pub const PEEK: Table<2> = peek!(table);
 
+pub const GET_BLOB: Table<2> = get_blob!(table);
+
 pub const LOCATE: Table<1> = locate!(table);
+
+pub const UNNOTED: Table<2> = unnoted!(table);

@@ -1,13 +1,19 @@
 // Writing entries.
 ghost use Rattle.std.specs.Prelude.{◌≡◌, ◌^◌, ◌<◌, ◌≤◌, ◌∷◌, ◌++◌, length, OnOk, OnErr, IfSome};
 ghost use Rattle.std.specs.List.{flat_map, AllByRecursion};
-ghost use Rattle.fh_event.specs.Fields.{number_bytes, text_bytes, maybe_bytes, spelled, IsText, IsField};
+ghost use Rattle.fh_event.specs.Fields.{number_bytes, text_bytes, maybe_bytes, spelled, IsText, IsField, IsShort};
+ghost use Rattle.fh_event.specs.Settings.{form_number, form_of, fields_behind_form, fields_of_settings};
 ghost use Rattle.fh_event.specs.Kinds.{kind_number, kind_of, fields_of};
 ghost use Rattle.fh_base.specs.Limits.{longest_payload};
 ghost use Rattle.fh_event.specs.Entries.{entry, HasShortTexts, AppendsEntry, Extends};
 
 use crate::command::Command;
-use crate::tables::{clear, delete, kind, locate, make_queue, of_command, peek, put, take, update};
+use crate::settings::FunctionSettings;
+use crate::tables::{
+    acquire, blob_settings, clear, configure, delete, delete_blob, get_blob, kind, locate,
+    make_queue, note, of_command, of_settings, peek, put, put_blob, queue_settings, release_lease,
+    renew_lease, take, unnoted, update,
+};
 use fh_base::{Moment, NoMemory, Text};
 
 /// Appends the entry of the moment and the command, if no text has more than 16,777,216 bytes. After want of memory nothing is appended.
@@ -94,8 +100,8 @@ fn put_maybe_text(into: &mut Vec<u8>, text: &Option<Text>) -> Result<(), NoMemor
 
 // Writes the fields of a table in order.
 macro_rules! writer {
-    ([$into:ident $command:ident] $kind:literal $variant:ident { $($field:literal $name:ident: $type:ident),* }) => {{
-        let Command::$variant { $($name),* } = $command else {
+    ([$of:ident $into:ident $value:ident] $kind:literal $variant:ident { $($field:literal $name:ident: $type:ident),* }) => {{
+        let $of::$variant { $($name),* } = $value else {
             unreachable!()
         };
         $(put_held!($type $into $name)?;)*
@@ -107,6 +113,37 @@ macro_rules! put_held {
     (Words $into:ident $name:ident) => { put_text($into, $name) };
     (MaybeNumber $into:ident $name:ident) => { put_maybe_number($into, $name) };
     (MaybeWords $into:ident $name:ident) => { put_maybe_text($into, $name) };
+    (Settings $into:ident $name:ident) => { put_settings($into, $name) };
+}
+
+#[tactic(auto, using(crate::proofs::Extending::extending))]
+fn put_settings(into: &mut Vec<u8>, settings: &FunctionSettings) -> Result<(), NoMemory>
+    requires { AllByRecursion IsShort (fields_of_settings settings.now) }
+    ensures ok { OnOk result
+        (into.new.items ≡ into.old.items ++ flat_map spelled (fields_of_settings settings.now)) }
+    ensures fields { OnOk result (AllByRecursion IsField (fields_of_settings settings.now)) }
+    ensures err { OnErr result (Extends into.old.items into.new.items) }
+{
+    into.push(form_of(settings))?;
+    put_settings_fields(into, settings)
+}
+
+#[tactic(auto, using(crate::proofs::Extending::extending))]
+fn put_settings_fields(into: &mut Vec<u8>, settings: &FunctionSettings) -> Result<(), NoMemory>
+    requires { AllByRecursion IsShort (fields_behind_form settings.now) }
+    ensures ok { OnOk result
+        (into.new.items ≡ into.old.items ++ flat_map spelled (fields_behind_form settings.now)) }
+    ensures fields { OnOk result (AllByRecursion IsField (fields_behind_form settings.now)) }
+    ensures err { OnErr result (Extends into.old.items into.new.items) }
+{
+    of_settings!(settings writer FunctionSettings into settings);
+    Ok(())
+}
+
+fn form_of(settings: &FunctionSettings) -> u8
+    ensures { result ≡ form_number (form_of settings.now) }
+{
+    of_settings!(settings kind)
 }
 
 #[tactic(auto, using(crate::proofs::Extending::extending))]
@@ -116,7 +153,7 @@ fn put_fields(into: &mut Vec<u8>, command: &Command) -> Result<(), NoMemory>
     ensures fields { OnOk result (AllByRecursion IsField (fields_of command.now)) }
     ensures err { OnErr result (Extends into.old.items into.new.items) }
 {
-    of_command!(command writer into command);
+    of_command!(command writer Command into command);
     Ok(())
 }
 
