@@ -20,7 +20,7 @@ use Rattle.fh_blobs.specs.Asks.{Ask, Put, Remove, Note, PutAll, Nothing}
 use Rattle.fh_blobs.specs.Rules.{text_rule, texts_rule}
 use Rattle.fh_blobs.specs.Acts.{new_row, receipt_of, with_blob, acted, by_acts}
 use Rattle.fh_blobs.specs.Outcome.{Acting, removing_found, noting_found, puts, acting, made_by, outcome}
-use Rattle.fh_blobs.specs.Laws.{IsWhole, OfEachAsk, StaysWhole, gives, GivesVersionsInTurn, MakesReceiptsOnce, HasNoReceipt}
+use Rattle.fh_blobs.specs.Laws.{IsWhole, OfEachAsk, StaysWhole, gives, GivesVersionsInTurn, MakesReceiptsOnce, HasNoReceipt, new_versions, MovesVersions}
 use Rattle.fh_blobs.proofs.Receipts.{has_receipt-made, first_of_both, second_of_both, same_text, blob_of-names, all-found, is_this, is_eq-by_receipt}
 
 -- what holds of each way in which an ask changes something
@@ -99,6 +99,25 @@ pub gives_in_turn : OfEachAsk GivesVersionsInTurn
 gives_in_turn part ask m after answer h is =
     let by = by_ways (InTurn part) part (turn_ways part) after answer ask m is in
     subst (λ (p : BlobPart). GivesVersionsInTurn part m ask p answer) by.made by.holds
+
+module _ (part : BlobPart) where
+  abbrev Little : Ask → List Act → BlobDone → Type 0
+  Little ask chain answer = (by_acts part chain).next_version ≤ part.next_version + new_versions ask
+
+  little_ways : Ways Little part
+  unfolding acted
+  little_ways = record {
+    stores = λ c n text. omega arith;
+    removes = λ c n. omega arith;
+    notes = λ f c n row stands noted. omega arith;
+    stores_all = λ blobs. omega (arith, next-puts blobs part);
+    nothing = omega arith;
+  }
+
+pub moves_versions : MovesVersions
+moves_versions part ask m after answer is =
+    let by = by_ways (Little part) part (little_ways part) after answer ask m is in
+    subst (λ (p : BlobPart). p.next_version ≤ part.next_version + new_versions ask) by.made by.holds
 
 -- ---- receipts
 

@@ -1,12 +1,12 @@
 -- What holds of each ask that changes something.
-use Rattle.std.specs.Prelude.{◌≡◌, ℕ, ◌+◌, ◌≤◌, ◌==◌, nat_le, nat_lt, Bool, true, false, ◌&&◌, ◌||◌, List}
+use Rattle.std.specs.Prelude.{◌≡◌, ℕ, ◌+◌, ◌≤◌, ◌==◌, nat_le, nat_lt, Bool, true, false, ◌&&◌, ◌||◌, List, length}
 use Rattle.std.specs.List.{list_all}
 use Rattle.std.specs.Str.{bytes_eq}
 use Rattle.fh_event.specs.Judging.{Makes}
 use Rattle.fh_blobs.specs.declared.done.BlobDone.{BlobDone}
 use Rattle.fh_blobs.specs.declared.done.BlobDone.TheVariants as done
 use Rattle.fh_blobs.specs.Part.{BlobPart, has_receipt}
-use Rattle.fh_blobs.specs.Asks.{Ask, Note}
+use Rattle.fh_blobs.specs.Asks.{Ask, Put, Note, PutAll}
 use Rattle.fh_blobs.specs.Outcome.{outcome}
 
 -- versions of blobs and receipts were given
@@ -52,3 +52,15 @@ pub record MakesReceiptsOnce (part : BlobPart) (m : ℕ) (ask : Ask) (after : Bl
 -- a version that wasn't given yet has no receipt
 abbrev pub HasNoReceipt : BlobPart → Type 0
 HasNoReceipt part = (f : ℕ) (c b : List ℕ) (v : ℕ) → part.next_version ≤ v → has_receipt part f c b v ≡ false
+
+-- how many versions an ask may take
+abbrev pub new_versions : Ask → ℕ
+new_versions (Put container name text) = 1
+new_versions (PutAll blobs) = length blobs
+new_versions ask = 0
+
+-- the next version moves by no more than was asked for, whatever the part before
+abbrev pub MovesVersions : Type 0
+MovesVersions =
+    (part : BlobPart) (ask : Ask) (m : ℕ) (after : BlobPart) (answer : BlobDone)
+    → outcome part ask m ≡ Makes after answer → after.next_version ≤ part.next_version + new_versions ask

@@ -2,7 +2,7 @@
 //! over every list of asks, from no blobs on.
 
 ghost use Rattle.fh_blobs.specs.Part.{BlobPart, no_blobs};
-ghost use Rattle.fh_blobs.specs.Laws.{IsWhole, OfEachAsk, StaysWhole, GivesVersionsInTurn, MakesReceiptsOnce, HasNoReceipt};
+ghost use Rattle.fh_blobs.specs.Laws.{IsWhole, OfEachAsk, StaysWhole, GivesVersionsInTurn, MakesReceiptsOnce, HasNoReceipt, MovesVersions};
 
 /// Blobs and receipts have versions that were given.
 pub fn parts_stay_whole()
@@ -13,6 +13,11 @@ pub fn parts_stay_whole()
 /// Versions are given from 1 on, each once and none left out.
 pub fn versions_are_given_in_turn()
     ensures { OfEachAsk GivesVersionsInTurn }
+{}
+
+/// An ask takes no more versions than it puts texts, whether the part before is whole or not.
+pub fn versions_move_little()
+    ensures { MovesVersions }
 {}
 
 /// The receipt of a function for a version of a blob is made where it isn't there, and stays.

@@ -27,7 +27,7 @@ pub use change::{BlobChange, StagedBlobs};
 pub use done::BlobDone;
 pub use laws::{
     new_versions_have_no_receipt, parts_stay_whole, receipts_are_made_once,
-    versions_are_given_in_turn,
+    versions_are_given_in_turn, versions_move_little,
 };
 pub use receipt::Receipt;
 

@@ -1,11 +1,19 @@
 -- How far the counters are from their ends.
-use Rattle.std.proofs.Common.{◌≡◌, ℕ, ◌+◌, ◌*◌, ◌≤◌, Bool, true, false, Some, None, refl, arith}
+use Rattle.std.proofs.Common.{◌≡◌, ℕ, ◌+◌, ◌*◌, ◌≤◌, Bool, true, false, Some, None, refl, sym, subst, arith}
 use Rattle.std.specs.Prelude.{nat_lt, if◌then◌else◌}
 use Rattle.std.proofs.Math.Nat.{add-mul}
 use Rattle.std.proofs.lemmas.Nat.{mul-le}
 use Rattle.std.proofs.lemmas.Bool.Decides.{nat_tests}
 use Rattle.fh_journal.specs.Journal.{gate_behind, full_at, most_bytes}
-use Rattle.fh_hub.specs.StoreEdits.{HasNumbers, parts_of}
+use Rattle.fh_event.specs.declared.command.Command.{Command}
+use Rattle.fh_event.specs.declared.command.Command.TheVariants.{PutBlob}
+use Rattle.fh_blobs.specs.Laws.{new_versions}
+use Rattle.fh_blobs.proofs.Lawful.{moves_versions}
+use Rattle.fh_hub.specs.Asked.{blob_ask}
+use Rattle.fh_hub.specs.Stores.{Parts, Asks, Done}
+use Rattle.fh_hub.specs.StoreEdits.{HasNumbers, IsOutcome, parts_of}
+use Rattle.fh_hub.proofs.Outcomes.{all_make}
+use Rattle.fh_hub.proofs.Steps.{asks_as_told}
 use Rattle.fh_hub.specs.State.{HubState, IsBounded}
 
 -- a gate that has gone on by a frame leaves room for as many receipts as one ask gives
@@ -20,7 +28,25 @@ receipts_within gate size receipt after begins was more =
 pub has_numbers : (s : HubState) → IsBounded s → HasNumbers (parts_of s.stores)
 has_numbers s bounded =
     let square = mul-le s.gate s.gate most_bytes most_bytes bounded.within bounded.within in
-    (omega (arith, bounded.number, bounded.within), omega (arith, bounded.receipt, square))
+    record {
+      queues = (omega (arith, bounded.number, bounded.within), omega (arith, bounded.receipt, square));
+      blobs = omega (arith, bounded.version, bounded.within);
+    }
+
+-- no command takes more than one version
+few_versions : (command : Command) → new_versions (blob_ask command) ≤ 1
+few_versions (PutBlob container blob text) = omega arith
+few_versions command = omega arith
+
+-- a version more stays within a gate that has gone on
+pub versions_within : (parts after : Parts) (done : Done) (gate size : ℕ) → IsOutcome parts after done → parts.blobs.next_version ≤ gate
+    → after.blobs.next_version ≤ gate_behind gate size
+versions_within parts after done gate size is within =
+    let told = asks_as_told parts is.command is.moment is.asks is.asked in
+    let did = (all_make parts is.asks is.moment after done is.is).blobs in
+    let moves = moves_versions parts.blobs is.asks.blobs is.moment after.blobs done.blobs did in
+    let few : new_versions is.asks.blobs ≤ 1 = subst (λ (a : Asks). new_versions a.blobs ≤ 1) (sym told) (few_versions is.command) in
+    omega (arith, moves, few, within)
 
 -- the gate stands behind the header
 pub begins : (s : HubState) → IsBounded s → 6 ≤ s.gate

@@ -13,7 +13,8 @@ use Rattle.fh_journal.specs.Journal.{full_at}
 use Rattle.fh_event.specs.Judging.{Judged}
 use Rattle.fh_event.specs.Judging as judging
 use Rattle.fh_hub.specs.Stores.{Parts, Asks, Done, outcomes, too_full}
-use Rattle.fh_hub.specs.World.{World, Refused, AsksAll, asked, judged, full_rule, unless_full, stepped_by, recorded, step, step_at, effective_moment}
+use Rattle.fh_hub.specs.Asked.{AsksAll, asked}
+use Rattle.fh_hub.specs.World.{World, Refused, judged, full_rule, unless_full, stepped_by, recorded, step, step_at, effective_moment}
 
 -- a command that acts at its own moment
 pub step_is_at : (w : World) (command : Command) (m : ℕ) → m ≤ greatest_moment → w.last ≤ m → step w command m ≡ step_at w command m

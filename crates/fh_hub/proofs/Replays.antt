@@ -7,7 +7,8 @@ use Rattle.fh_event.specs.Entries.{IsEntry}
 use Rattle.fh_journal.specs.Journal.{opened, frame, gate_behind}
 use Rattle.fh_journal.proofs.Bytes.{opened-push}
 use Rattle.fh_hub.specs.Stores.{Parts, Done}
-use Rattle.fh_hub.specs.World.{World, empty, Recorded, step, world_with, reply_of}
+use Rattle.fh_hub.specs.World.{World, empty, Recorded, step, world_with}
+use Rattle.fh_hub.specs.Replies.{reply_of}
 use Rattle.fh_hub.specs.Replay.{Entry, bytes_of, payloads_of, replay_from, replay, after, world_after, IsWritten, IsNext, IsLegalFrom, IsLegal}
 use Rattle.fh_hub.specs.State.{HubState, world_of, IsFaithful, IsPlanned}
 

@@ -2,72 +2,70 @@
 use Rattle.std.proofs.Common.{◌≡◌, ℕ, Bool, true, false, List, [], ◌∷◌, ◌++◌, Option, Some, None, Ok, length, refl, sym, ◌∙◌, ap, subst, append_assoc, append-nil}
 use Rattle.std.specs.Prelude.{nat_le, if◌then◌else◌, Result, Err}
 use Rattle.fh_base.specs.Moments.{greatest_moment}
-use Rattle.fh_base.specs.Names.{is_queue_name}
 use Rattle.fh_base.specs.declared.rule.Rule.{Rule}
 use Rattle.fh_base.specs.declared.rule.Rule.TheVariants.{MomentTooLate, BadName}
 use Rattle.fh_event.specs.declared.command.Command.{Command}
-use Rattle.fh_event.specs.declared.command.Command.TheVariants.{MakeQueue, Put, Take, Update, Delete, Clear, Peek, Locate}
+use Rattle.fh_event.specs.declared.command.Command.TheVariants.{Note, Configure, Peek, GetBlob, Locate, Unnoted}
 use Rattle.fh_event.specs.declared.reply.Item.{Item}
 use Rattle.fh_event.specs.declared.reply.Reply.{Reply}
 use Rattle.fh_event.specs.Entries.{entry}
 use Rattle.fh_event.specs.Judging.{Judged}
 use Rattle.fh_event.specs.Judging as judging
-use Rattle.fh_queues.specs.Asks.{Ask}
-use Rattle.fh_queues.specs.Asks as asks
-use Rattle.fh_queues.specs.Outcome.{outcome, peeked}
+use Rattle.fh_queues.specs.Outcome as queues
+use Rattle.fh_queues.specs.Outcome.{peeked}
+use Rattle.fh_blobs.specs.declared.blob.BlobRow.{BlobRow}
+use Rattle.fh_blobs.specs.Part.{blob_of}
+use Rattle.fh_blobs.specs.Outcome as blobs
+use Rattle.fh_leases.specs.Outcome as leases
 use Rattle.fh_hub.specs.Stores.{Parts, Asks, Done, outcomes, too_full}
-use Rattle.fh_hub.specs.World.{World, empty, Stepped, Refused, Read, Quieted, Recorded, Asked, Refuses, Reads, AsksAll, reads_items, asked, reply_of, full_rule, world_with, recorded, unless_full, judged, stepped_by, step, step_at, effective_moment}
+use Rattle.fh_hub.specs.Names.{has_good_names}
+use Rattle.fh_hub.specs.Asked.{Asked, Refuses, Reads, AsksAll, queue_ask, blob_ask, lease_ask, asks_of_command, reads_items, reads_blob, asked_of, unless_misnamed, asked}
+use Rattle.fh_hub.specs.Replies.{reply_of}
+use Rattle.fh_hub.specs.World.{World, empty, Stepped, Refused, Read, Quieted, Recorded, full_rule, world_with, recorded, unless_full, judged, stepped_by, step, step_at, effective_moment}
 use Rattle.fh_hub.specs.Replay.{Entry, Event, world_after, after, replay_from, replay, event_of, trace_from, trace}
-use Rattle.fh_hub.proofs.Outcomes.{outcome_of_queues}
-
--- what a command asks of the queues, where it asks anything
-abbrev pub ask_of : Command → Ask
-ask_of (MakeQueue queue) = asks.Make queue
-ask_of (Put queue delay ttl text) = asks.Put queue delay ttl text None
-ask_of (Take queue count hold) = asks.Take queue count hold
-ask_of (Update queue number receipt hold text) = asks.Update queue number receipt hold text
-ask_of (Delete queue number receipt) = asks.Delete queue number receipt
-ask_of (Clear queue) = asks.Clear queue
-ask_of (Peek queue count) = asks.Sweep
-ask_of (Locate number) = asks.Sweep
+use Rattle.fh_hub.proofs.Outcomes.{all_make}
 
 -- what the stores did in a recorded step
 pub record Made (w : World) (command : Command) (now : ℕ) (new : World) (reply : Reply) : Type 0 where
   pub done : Done
-  pub queues : outcome w.parts.queues (ask_of command) (effective_moment w now) ≡ judging.Makes new.parts.queues done.queues
+  pub queues : queues.outcome w.parts.queues (queue_ask command) (effective_moment w now) ≡ judging.Makes new.parts.queues done.queues
+  pub blobs : blobs.outcome w.parts.blobs (blob_ask command) (effective_moment w now) ≡ judging.Makes new.parts.blobs done.blobs
+  pub leases : leases.outcome w.parts.leases (lease_ask command) (effective_moment w now) ≡ judging.Makes new.parts.leases done.leases
   pub replies : reply ≡ reply_of done
   pub last : new.last ≡ effective_moment w now
 
--- what is asked had a good name
-pub record IsNamed (queue : List ℕ) (all : Asks) (given : Asked) : Type 0 where
-  pub good : is_queue_name queue ≡ true
-  pub same : AsksAll all ≡ given
-
-pub named : (queue : List ℕ) (given : Asked) (all : Asks) → (if is_queue_name queue then given else Refuses BadName) ≡ AsksAll all → IsNamed queue all given
-named queue given all is = by_test (is_queue_name queue) refl is
+named : (command : Command) (given : Asked) (all : Asks) → unless_misnamed command given ≡ AsksAll all → given ≡ AsksAll all
+named command given all is = by_test (has_good_names command) is
   where
-    by_test : (good : Bool) → is_queue_name queue ≡ good → (if good then given else Refuses BadName) ≡ AsksAll all → IsNamed queue all given
-    by_test true good is = record { good = good; same = sym is }
-    by_test false good is = absurd (cc)
+    by_test : (good : Bool) → (if good then given else Refuses BadName) ≡ AsksAll all → given ≡ AsksAll all
+    by_test true is = is
+    by_test false is = absurd (cc)
 
--- a peek asks the queues for nothing
-pub peeks_nothing : (found : Result (List Item) Rule) (all : Asks) → reads_items found ≡ AsksAll all → ⊥
+-- readings ask nothing of the stores
+peeks_nothing : (found : Result (List Item) Rule) (all : Asks) → reads_items found ≡ AsksAll all → ⊥
 peeks_nothing (Ok items) all is = cc
 peeks_nothing (Err rule) all is = cc
 
-same_ask : (ask : Ask) (all : Asks) → AsksAll all ≡ AsksAll (record { queues = ask }) → all.queues ≡ ask
-same_ask ask all is = let same : all ≡ record { queues = ask } = cc in ap (λ (a : Asks). a.queues) same
+gets_nothing : (found : Option BlobRow) (all : Asks) → reads_blob found ≡ AsksAll all → ⊥
+gets_nothing None all is = cc
+gets_nothing (Some row) all is = cc
 
-pub asks_as_told : (parts : Parts) (command : Command) (m : ℕ) (all : Asks) → asked parts command m ≡ AsksAll all → all.queues ≡ ask_of command
+same_asks : (all given : Asks) → AsksAll given ≡ AsksAll all → all ≡ given
+same_asks all given is = let same : given ≡ all = cc in sym same
+
+asked_of_command : (parts : Parts) (command : Command) (m : ℕ) (all : Asks) → asked_of parts command m ≡ AsksAll all → all ≡ asks_of_command command
+asked_of_command parts (Peek queue count) m all is = absurd (peeks_nothing (peeked parts.queues queue count m) all is)
+asked_of_command parts (GetBlob container blob) m all is = absurd (gets_nothing (blob_of container blob parts.blobs.blobs) all is)
+asked_of_command parts (Locate number) m all is = absurd (cc)
+asked_of_command parts (Note function container blob) m all is = absurd (cc)
+asked_of_command parts (Configure function settings) m all is = absurd (cc)
+asked_of_command parts (Unnoted function container) m all is = absurd (cc)
+asked_of_command parts command m all is = same_asks all (asks_of_command command) is
+
+-- what is asked is what the command says
+pub asks_as_told : (parts : Parts) (command : Command) (m : ℕ) (all : Asks) → asked parts command m ≡ AsksAll all → all ≡ asks_of_command command
 unfolding asked
-asks_as_told parts (MakeQueue queue) m all is = same_ask (asks.Make queue) all (named queue _ all is).same
-asks_as_told parts (Put queue delay ttl text) m all is = same_ask (asks.Put queue delay ttl text None) all (named queue _ all is).same
-asks_as_told parts (Take queue count hold) m all is = same_ask (asks.Take queue count hold) all (named queue _ all is).same
-asks_as_told parts (Update queue number receipt hold text) m all is = same_ask (asks.Update queue number receipt hold text) all (named queue _ all is).same
-asks_as_told parts (Delete queue number receipt) m all is = same_ask (asks.Delete queue number receipt) all (named queue _ all is).same
-asks_as_told parts (Clear queue) m all is = same_ask (asks.Clear queue) all (named queue _ all is).same
-asks_as_told parts (Peek queue count) m all is = absurd (peeks_nothing (peeked parts.queues queue count m) all (sym (named queue _ all is).same))
-asks_as_told parts (Locate number) m all is = absurd (cc)
+asks_as_told parts command m all is = asked_of_command parts command m all (named command (asked_of parts command m) all is)
 
 module _ (w : World) (command : Command) (now : ℕ) (new : World) (reply : Reply) where
   abbrev m : ℕ
@@ -77,17 +75,20 @@ module _ (w : World) (command : Command) (now : ℕ) (new : World) (reply : Repl
   from_room None stepped is = is
   from_room (Some rule) stepped is = absurd (cc)
 
-  from_judged : (size : ℕ) (full : Option Rule) (all : Asks) (found : Judged Parts Done) → all.queues ≡ ask_of command → outcomes w.parts all m ≡ found → judged w m size full found ≡ Recorded new reply → Made w command now new reply
+  from_judged : (size : ℕ) (full : Option Rule) (all : Asks) (found : Judged Parts Done) → all ≡ asks_of_command command → outcomes w.parts all m ≡ found → judged w m size full found ≡ Recorded new reply → Made w command now new reply
   from_judged size full all (judging.Refuses rule) asking makes is = absurd (cc)
   from_judged size full all (judging.Quiets answer) asking makes is = absurd (cc)
   from_judged size full all (judging.Makes parts answer) asking makes is =
       let stepped : recorded w m size parts answer ≡ Recorded new reply = from_room (full_rule w.gate size full) _ is in
       let new_is : world_with w parts m size ≡ new = cc in
       let reply_is : reply_of answer ≡ reply = cc in
-      let did = outcome_of_queues w.parts all m parts answer makes in
+      let told = ap (λ (a : Asks). outcomes w.parts a m) (sym asking) ∙ makes ∙ ap (λ (x : World). judging.Makes x.parts answer) new_is in
+      let did = all_make w.parts (asks_of_command command) m new.parts answer told in
       record {
         done = answer;
-        queues = ap (λ (a : Ask). outcome w.parts.queues a m) (sym asking) ∙ did ∙ ap (λ (x : World). judging.Makes x.parts.queues answer.queues) new_is;
+        queues = did.queues;
+        blobs = did.blobs;
+        leases = did.leases;
         replies = sym reply_is;
         last = sym (ap (λ (x : World). x.last) new_is);
       }

@@ -6,11 +6,15 @@ use Rattle.std.proofs.lemmas.Bool.Decides.{nat_tests}
 use Rattle.std.proofs.lemmas.List.Sums.{fold_push, sum_by_push}
 use Rattle.std.proofs.lemmas.List.Recursion.{or_push}
 use Rattle.fh_event.specs.declared.command.Command.{Command}
-use Rattle.fh_event.specs.declared.command.Command.TheVariants.{MakeQueue, Put, Take, Update, Delete, Clear, Peek, Locate}
+use Rattle.fh_event.specs.declared.command.Command.TheVariants.{Put, Take, Update, Delete, Clear}
 use Rattle.fh_event.specs.declared.reply.Reply.{Reply}
 use Rattle.fh_queues.specs.declared.row.Message.{Message}
 use Rattle.fh_queues.specs.declared.done.QueueDone.{QueueDone}
 use Rattle.fh_queues.specs.declared.done.QueueDone.TheVariants as done
+use Rattle.fh_blobs.specs.declared.done.BlobDone.{BlobDone}
+use Rattle.fh_blobs.specs.declared.done.BlobDone.TheVariants as blobs
+use Rattle.fh_leases.specs.declared.done.LeaseDone.{LeaseDone}
+use Rattle.fh_leases.specs.declared.done.LeaseDone.TheVariants as leases
 use Rattle.fh_queues.specs.declared.done.Ending.{Ending}
 use Rattle.fh_queues.specs.declared.done.Ending.TheVariants.{Deleted, Completed, Moved, Expired}
 use Rattle.fh_queues.specs.Asks.{Ask}
@@ -23,12 +27,15 @@ use Rattle.fh_queues.specs.Receipts.{born, given}
 use Rattle.fh_queues.specs.Goings.{answered, deletes, newly, goes_on}
 use Rattle.fh_queues.specs.Tellings.{items_in, lists, own_hold, newer, hold_given, queue_given, expiry_given, removes, IsNew, TellsOfMessages}
 use Rattle.fh_queues.proofs.Lawful.{Whole-none, Whole-outcome, row_seen, goes_as_answered, gives_numbers, gives_receipts, moves_little, tells}
-use Rattle.fh_hub.specs.World.{World, empty, effective_moment, reply_of_queues}
+use Rattle.fh_hub.specs.World.{World, empty, effective_moment}
+use Rattle.fh_hub.specs.Asked.{queue_ask}
+use Rattle.fh_hub.specs.Stores.{Done}
+use Rattle.fh_hub.specs.Replies.{reply_of_leases, reply_of_blobs, reply_of_queues, reply_of_others, reply_of}
 use Rattle.fh_hub.specs.Replay.{Entry, Event, trace, replay}
 use Rattle.fh_hub.specs.Signs.{signs_of, signs, items_of, gives, bears}
 use Rattle.fh_hub.specs.Laws.{births, receipts}
 use Rattle.fh_hub.specs.Places.{birth_of, expiry_by, queue_by, expiry_of, queue_of, last_hold, was_removed}
-use Rattle.fh_hub.proofs.Steps.{Made, IsKept, event, ask_of, kept_by_all}
+use Rattle.fh_hub.proofs.Steps.{Made, IsKept, event, kept_by_all}
 use Rattle.fh_hub.proofs.Births.{birth_now, birth_then}
 
 -- once for each number from 1 on and below the next one
@@ -64,74 +71,78 @@ pub record Told (events : List Event) (w : World) : Type 0 where
   pub receipts : (k : ℕ) → receipts k events ≡ once_below w.parts.queues.next_receipt k
   pub seen : (n : ℕ) → IsSeenBy n events w.last (seen n w.parts.queues)
 
+-- a reply that says nothing of messages
+pub record IsApart (reply : Reply) : Type 0 where
+  pub births : (n : ℕ) → bears n reply ≡ false
+  pub receipts : (k : ℕ) → gives k reply ≡ 0
+  pub items : items_of reply ≡ []
+
+apart : (reply : Reply) → ((n : ℕ) → bears n reply ≡ false) → ((k : ℕ) → gives k reply ≡ 0) → items_of reply ≡ [] → IsApart reply
+apart reply births receipts items = record { births = births; receipts = receipts; items = items }
+
+leases_apart : (answer : LeaseDone) → IsApart (reply_of_leases answer)
+leases_apart (leases.Acquired until) = apart _ (λ n. refl) (λ k. refl) refl
+leases_apart (leases.Renewed until) = apart _ (λ n. refl) (λ k. refl) refl
+leases_apart leases.Released = apart _ (λ n. refl) (λ k. refl) refl
+leases_apart answer = apart _ (λ n. refl) (λ k. refl) refl
+
+blobs_apart : (others : Reply) (answer : BlobDone) → IsApart others → IsApart (reply_of_blobs others answer)
+blobs_apart others (blobs.Stored version) is = apart _ (λ n. refl) (λ k. refl) refl
+blobs_apart others blobs.Removed is = apart _ (λ n. refl) (λ k. refl) refl
+blobs_apart others answer is = is
+
+others_apart : (answer : Done) → IsApart (reply_of_others answer)
+others_apart answer = blobs_apart (reply_of_leases answer.leases) answer.blobs (leases_apart answer.leases)
+
 -- a reply gives out and lists what the queues did
-bears_as_born : (n : ℕ) (answer : QueueDone) → bears n (reply_of_queues answer) ≡ born n answer
-bears_as_born n done.Made = refl
-bears_as_born n done.There = refl
-bears_as_born n (done.Stored number receipt) = refl
-bears_as_born n (done.Taken items) = refl
-bears_as_born n done.Empty = refl
-bears_as_born n (done.Updated receipt) = refl
-bears_as_born n done.Deleted = refl
-bears_as_born n (done.Cleared count) = refl
-bears_as_born n done.Swept = refl
+bears_as_born : (n : ℕ) (others : Reply) (answer : QueueDone) → IsApart others → bears n (reply_of_queues others answer) ≡ born n answer
+bears_as_born n others (done.Stored number receipt) is = refl
+bears_as_born n others done.Swept is = is.births n
+bears_as_born n others answer is = refl
 
-gives_as_given : (k : ℕ) (answer : QueueDone) → gives k (reply_of_queues answer) ≡ given k answer
-gives_as_given k done.Made = refl
-gives_as_given k done.There = refl
-gives_as_given k (done.Stored number receipt) = refl
-gives_as_given k (done.Taken items) = refl
-gives_as_given k done.Empty = refl
-gives_as_given k (done.Updated receipt) = refl
-gives_as_given k done.Deleted = refl
-gives_as_given k (done.Cleared count) = refl
-gives_as_given k done.Swept = refl
+gives_as_given : (k : ℕ) (others : Reply) (answer : QueueDone) → IsApart others → gives k (reply_of_queues others answer) ≡ given k answer
+gives_as_given k others (done.Stored number receipt) is = refl
+gives_as_given k others (done.Taken items) is = refl
+gives_as_given k others (done.Updated receipt) is = refl
+gives_as_given k others done.Swept is = is.receipts k
+gives_as_given k others answer is = refl
 
-pub items_as_listed : (answer : QueueDone) → items_of (reply_of_queues answer) ≡ items_in answer
-items_as_listed done.Made = refl
-items_as_listed done.There = refl
-items_as_listed (done.Stored number receipt) = refl
-items_as_listed (done.Taken items) = refl
-items_as_listed done.Empty = refl
-items_as_listed (done.Updated receipt) = refl
-items_as_listed done.Deleted = refl
-items_as_listed (done.Cleared count) = refl
-items_as_listed done.Swept = refl
+items_as_listed : (others : Reply) (answer : QueueDone) → IsApart others → items_of (reply_of_queues others answer) ≡ items_in answer
+items_as_listed others (done.Taken items) is = refl
+items_as_listed others done.Swept is = is.items
+items_as_listed others answer is = refl
 
-hold_as_told : (rows : List Message) (n m : ℕ) (command : Command) (answer : QueueDone) → (signs_of rows m command (reply_of_queues answer)).hold n ≡ hold_given n m (ask_of command) answer
-hold_as_told rows n m (MakeQueue queue) answer = refl
+-- a step's reply does
+pub reply_bears : (n : ℕ) (answer : Done) → bears n (reply_of answer) ≡ born n answer.queues
+reply_bears n answer = bears_as_born n (reply_of_others answer) answer.queues (others_apart answer)
+
+pub reply_gives : (k : ℕ) (answer : Done) → gives k (reply_of answer) ≡ given k answer.queues
+reply_gives k answer = gives_as_given k (reply_of_others answer) answer.queues (others_apart answer)
+
+pub reply_lists : (answer : Done) → items_of (reply_of answer) ≡ items_in answer.queues
+reply_lists answer = items_as_listed (reply_of_others answer) answer.queues (others_apart answer)
+
+hold_as_told : (rows : List Message) (n m : ℕ) (command : Command) (answer : Done) → (signs_of rows m command (reply_of answer)).hold n ≡ hold_given n m (queue_ask command) answer.queues
 hold_as_told rows n m (Put queue delay ttl text) answer = refl
-hold_as_told rows n m (Take queue count hold) answer = ap (λ items. if lists n items then Some (after m hold) else None) (items_as_listed answer)
+hold_as_told rows n m (Take queue count hold) answer = ap (λ items. if lists n items then Some (after m hold) else None) (reply_lists answer)
 hold_as_told rows n m (Update queue number receipt hold text) answer = refl
 hold_as_told rows n m (Delete queue number receipt) answer = refl
 hold_as_told rows n m (Clear queue) answer = refl
-hold_as_told rows n m (Peek queue count) answer = refl
-hold_as_told rows n m (Locate number) answer = refl
+hold_as_told rows n m command answer = refl
 
-removes_as_told : (rows : List Message) (n m : ℕ) (command : Command) (reply : Reply) → (signs_of rows m command reply).removes n ≡ removes n m rows (ask_of command)
-removes_as_told rows n m (MakeQueue queue) reply = refl
-removes_as_told rows n m (Put queue delay ttl text) reply = refl
-removes_as_told rows n m (Take queue count hold) reply = refl
-removes_as_told rows n m (Update queue number receipt hold text) reply = refl
+removes_as_told : (rows : List Message) (n m : ℕ) (command : Command) (reply : Reply) → (signs_of rows m command reply).removes n ≡ removes n m rows (queue_ask command)
 removes_as_told rows n m (Delete queue number receipt) reply = refl
 removes_as_told rows n m (Clear queue) reply = refl
-removes_as_told rows n m (Peek queue count) reply = refl
-removes_as_told rows n m (Locate number) reply = refl
+removes_as_told rows n m command reply = refl
 
 -- the queue and the expiry that a command gives
 record IsBirth (rows : List Message) (m : ℕ) (command : Command) (reply : Reply) : Type 0 where
-  pub queue : (signs_of rows m command reply).queue ≡ queue_given (ask_of command)
-  pub expiry : (signs_of rows m command reply).expiry ≡ expiry_given m (ask_of command)
+  pub queue : (signs_of rows m command reply).queue ≡ queue_given (queue_ask command)
+  pub expiry : (signs_of rows m command reply).expiry ≡ expiry_given m (queue_ask command)
 
 birth_as_told : (rows : List Message) (m : ℕ) (command : Command) (reply : Reply) → IsBirth rows m command reply
-birth_as_told rows m (MakeQueue queue) reply = record { queue = refl; expiry = refl }
 birth_as_told rows m (Put queue delay ttl text) reply = record { queue = refl; expiry = refl }
-birth_as_told rows m (Take queue count hold) reply = record { queue = refl; expiry = refl }
-birth_as_told rows m (Update queue number receipt hold text) reply = record { queue = refl; expiry = refl }
-birth_as_told rows m (Delete queue number receipt) reply = record { queue = refl; expiry = refl }
-birth_as_told rows m (Clear queue) reply = record { queue = refl; expiry = refl }
-birth_as_told rows m (Peek queue count) reply = record { queue = refl; expiry = refl }
-birth_as_told rows m (Locate number) reply = record { queue = refl; expiry = refl }
+birth_as_told rows m command reply = record { queue = refl; expiry = refl }
 
 -- what has expired at a moment has at each later one
 pub expired_later : (m later : ℕ) (expiry : Option ℕ) → m ≤ later → is_before m expiry ≡ false → is_before later expiry ≡ false
@@ -160,7 +171,7 @@ module _ (events : List Event) (w : World) (command : Command) (now : ℕ) (new 
   more = events ++ e ∷ []
 
   abbrev ask : Ask
-  ask = ask_of command
+  ask = queue_ask command
 
   abbrev answer : QueueDone
   answer = made.done.queues
@@ -171,7 +182,7 @@ module _ (events : List Event) (w : World) (command : Command) (now : ℕ) (new 
   births_push : (n : ℕ) → births n more ≡ births n events + (if born n answer then 1 else 0)
   births_push n =
       sum_by_push (λ (x : Event). cond (bears n x.reply) 1 0) events e
-      ∙ ap (λ b. births n events + (if b then 1 else 0)) (ap (bears n) made.replies ∙ bears_as_born n answer)
+      ∙ ap (λ b. births n events + (if b then 1 else 0)) (ap (bears n) made.replies ∙ reply_bears n made.done)
 
   births_after : (n : ℕ) → births n more ≡ once_below new.parts.queues.next_number n
   births_after n =
@@ -185,7 +196,7 @@ module _ (events : List Event) (w : World) (command : Command) (now : ℕ) (new 
   receipts_after k =
       let moves = moves_little w.parts.queues ask m new.parts.queues answer made.queues in
       sum_by_push (λ (x : Event). gives k x.reply) events e
-      ∙ ap (λ j. receipts k events + j) (ap (gives k) made.replies ∙ gives_as_given k answer ∙ gives_receipts w.parts.queues ask m new.parts.queues answer h.whole made.queues k)
+      ∙ ap (λ j. receipts k events + j) (ap (gives k) made.replies ∙ reply_gives k made.done ∙ gives_receipts w.parts.queues ask m new.parts.queues answer h.whole made.queues k)
       ∙ ap (λ j. j + (if nat_le w.parts.queues.next_receipt k && nat_lt k new.parts.queues.next_receipt then 1 else 0)) (h.receipts k)
       ∙ more_below w.parts.queues.next_receipt new.parts.queues.next_receipt k h.whole.receipts moves.receipts
 
@@ -199,7 +210,7 @@ module _ (events : List Event) (w : World) (command : Command) (now : ℕ) (new 
   last_hold_is : (n : ℕ) → last_hold n more ≡ newer (last_hold n events) (hold_given n m ask answer)
   last_hold_is n =
       fold_push (λ held (x : Event). newer held ((signs x).hold n)) None events e
-      ∙ ap (newer (last_hold n events)) (ap (λ (r : Reply). (signs_of w.parts.queues.rows m command r).hold n) made.replies ∙ hold_as_told w.parts.queues.rows n m command answer)
+      ∙ ap (newer (last_hold n events)) (ap (λ (r : Reply). (signs_of w.parts.queues.rows m command r).hold n) made.replies ∙ hold_as_told w.parts.queues.rows n m command made.done)
 
   removed_is : (n : ℕ) → was_removed n more ≡ (was_removed n events || removes n m w.parts.queues.rows ask)
   removed_is n =
@@ -241,7 +252,7 @@ module _ (events : List Event) (w : World) (command : Command) (now : ℕ) (new 
 
       first : (row : Message) → IsNew n m ask answer row → IsTold n more row
       first row one =
-          let bearing : bears n e.reply ≡ true = ap (bears n) made.replies ∙ bears_as_born n answer ∙ one.born in
+          let bearing : bears n e.reply ≡ true = ap (bears n) made.replies ∙ reply_bears n made.done ∙ one.born in
           let birth : birth_of n more ≡ Some e = birth_now n events e was.0 bearing in
           let gave = birth_as_told w.parts.queues.rows m command reply in
           record {

@@ -1,5 +1,5 @@
 -- What the code asks for a command, as the machine does.
-use Rattle.fh_hub.specs.World.{Asked, Refuses, Reads, AsksAll}
+use Rattle.fh_hub.specs.Asked.{Asked, Refuses, Reads, AsksAll}
 use Rattle.fh_hub.specs.StoreEdits.{asks_of}
 use Rattle.fh_hub.specs.declared.asking.Asked.TheVariants as code
 use Rattle.fh_hub.specs.declared.asking.Asked as declared

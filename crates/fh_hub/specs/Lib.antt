@@ -1,4 +1,7 @@
 pub mod Stores
+pub mod Names
+pub mod Asked
+pub mod Replies
 pub mod StoreEdits
 pub mod World
 pub mod Asking

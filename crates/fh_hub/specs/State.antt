@@ -28,6 +28,7 @@ pub record IsBounded (s : HubState) : Type 0 where
   pub timed : s.last ≤ greatest_moment
   pub number : s.stores.queues.part.next_number ≤ s.gate
   pub receipt : s.stores.queues.part.next_receipt ≤ s.gate * s.gate
+  pub version : s.stores.blobs.part.next_version ≤ s.gate
 
 -- the world is that of the history, which is legal
 pub record IsFaithful (s : HubState) : Type 0 where

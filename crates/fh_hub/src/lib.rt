@@ -19,6 +19,7 @@ mod hub;
 mod laws;
 mod mounting;
 mod plan;
+mod replies;
 mod state;
 mod stores;
 

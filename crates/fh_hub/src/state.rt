@@ -4,21 +4,22 @@ ghost use Rattle.fh_base.specs.Moments.{greatest_moment};
 ghost use Rattle.fh_event.specs.Entries.{IsEntry, HasShortTexts};
 ghost use Rattle.fh_journal.specs.Journal.{gate_behind};
 ghost use Rattle.fh_queues.specs.Places.{place_of};
-ghost use Rattle.fh_hub.specs.World.{Recorded, AsksAll, asked, empty, step, step_at, reply_of, effective_moment, full_rule, size_rule};
+ghost use Rattle.fh_hub.specs.Asked.{AsksAll, asked};
+ghost use Rattle.fh_hub.specs.World.{Recorded, empty, step, step_at, effective_moment, full_rule, size_rule};
 ghost use Rattle.fh_hub.specs.History.{entry_of};
 ghost use Rattle.fh_hub.specs.Replay.{Entry, entry_for};
 ghost use Rattle.fh_hub.specs.State.{world_of, IsIdle, IsUnchanged, IsFaithful};
-ghost use Rattle.fh_hub.specs.StoreEdits.{asks_of, done_of, parts_of};
+ghost use Rattle.fh_hub.specs.StoreEdits.{asks_of, parts_of};
 ghost use Rattle.fh_hub.specs.Plans.{entry_at, step_of_asks, IsPlanFor, IsPlannedAs, IsFaultOfStep, IsStaged};
 
 use crate::asking::Asked;
 use crate::history::History;
 use crate::plan::{Change, Plan, Staged};
-use crate::stores::{StoreAsks, Stores, StoresDone};
+use crate::replies::reply_of;
+use crate::stores::{StoreAsks, Stores};
 use fh_base::{Bytes, LONGEST_PAYLOAD, Moment, NoMemory, Rule};
 use fh_event::{Command, Place, PlanFault, Reply, encode, entry_size};
 use fh_journal::{FIRST_GATE, gate_behind, room_behind};
-use fh_queues::QueueDone;
 use std::alloc::Global;
 use std::marker::Model;
 
@@ -239,22 +240,6 @@ fn effective(now: Moment, last: u64) -> Moment
         return now;
     }
     Moment::new(last).unwrap()
-}
-
-fn reply_of(done: StoresDone) -> Reply
-    ensures { result ≡ reply_of (done_of done) }
-{
-    match done.queues {
-        QueueDone::Made => Reply::Made,
-        QueueDone::There => Reply::There,
-        QueueDone::Stored { number, receipt } => Reply::Stored { number, receipt },
-        QueueDone::Taken { items } => Reply::Taken { items },
-        QueueDone::Empty => Reply::Empty,
-        QueueDone::Updated { receipt } => Reply::Updated { receipt },
-        QueueDone::Deleted => Reply::Deleted,
-        QueueDone::Cleared { count } => Reply::Cleared { count },
-        QueueDone::Swept => Reply::Empty,
-    }
 }
 
 // An entry is too large for a frame.

@@ -1,14 +1,17 @@
 // All stores as one value.
-ghost use Rattle.std.specs.Prelude.{◌≡◌, true, false, Ok, IfOk, IfErr, OnErr};
-ghost use Rattle.fh_event.specs.Judging.{Quiets, Makes};
+ghost use Rattle.std.specs.Prelude.{◌≡◌, true, false, Ok, IfOk, IfErr, OnErr, option_copied};
+ghost use Rattle.fh_event.specs.Judging.{Quiets, Makes, first_rule};
 ghost use Rattle.fh_queues.specs.Places.{place_of};
 ghost use Rattle.fh_queues.specs.Outcome.{peeked};
 ghost use Rattle.fh_queues.specs.Faults.{IsFaultOf};
+ghost use Rattle.fh_blobs.specs.Part.{blob_of};
 ghost use Rattle.fh_hub.specs.Stores.{Parts, no_parts, outcomes, too_full};
-ghost use Rattle.fh_hub.specs.StoreEdits.{parts_of, asks_of, done_of, planned, changed, answered, IsPlanOf, made, made_done, IsOutcome, HasNumbers, IsIdle, IsStaged};
+ghost use Rattle.fh_hub.specs.StoreEdits.{parts_of, asks_of, done_of, planned, changed, answered, both_planned, IsPlanOf, made, made_done, IsOutcome, HasNumbers, IsIdle, IsStaged};
 
 use fh_base::{Moment, NoMemory, QueueName, Rule};
+use fh_blobs::{BlobAsk, BlobChange, BlobDone, BlobRow, Blobs, StagedBlobs};
 use fh_event::{Items, Place, PlanFault};
+use fh_leases::{LeaseAsk, LeaseChange, LeaseDone, Leases, StagedLeases};
 use fh_queues::{QueueAsk, QueueChange, QueueDone, Queues, StagedQueues};
 use std::alloc::Global;
 use std::marker::Model;
@@ -17,6 +20,8 @@ use std::marker::Model;
 #[derive(Drop)]
 pub struct Stores {
     queues: Queues,
+    blobs: Blobs,
+    leases: Leases,
 }
 
 impl Model for Stores {
@@ -24,30 +29,38 @@ impl Model for Stores {
 
     ghost Value = { StoresState };
 
-    ghost view = { λ s. record { queues = s.queues } };
+    ghost view = { λ s. record { queues = s.queues; blobs = s.blobs; leases = s.leases } };
 }
 
 /// What is asked of each store.
 #[derive(Clone, Copy)]
 pub(crate) struct StoreAsks<'a> {
     pub(crate) queues: QueueAsk<'a>,
+    pub(crate) blobs: BlobAsk<'a>,
+    pub(crate) leases: LeaseAsk<'a>,
 }
 
 /// A change of each store. It may be dropped.
 #[derive(Drop)]
 pub(crate) struct StoreChanges {
     pub(crate) queues: QueueChange,
+    pub(crate) blobs: BlobChange,
+    pub(crate) leases: LeaseChange,
 }
 
 /// A change of each store that has its memory. It has to be settled or unstaged.
 pub(crate) struct StagedStores {
     pub(crate) queues: StagedQueues,
+    pub(crate) blobs: StagedBlobs,
+    pub(crate) leases: StagedLeases,
 }
 
 /// What each store did.
 #[derive(Drop)]
 pub(crate) struct StoresDone {
     pub(crate) queues: QueueDone,
+    pub(crate) blobs: BlobDone,
+    pub(crate) leases: LeaseDone,
 }
 
 impl Stores {
@@ -58,6 +71,8 @@ impl Stores {
     {
         Stores {
             queues: Queues::new(alloc),
+            blobs: Blobs::new(alloc),
+            leases: Leases::new(alloc),
         }
     }
 
@@ -84,6 +99,13 @@ impl Stores {
         self.queues.peek(alloc, queue, count, m)
     }
 
+    /// A blob as it is.
+    pub(crate) fn get(&self, container: &QueueName, name: &str) -> Option<&BlobRow>
+        ensures { option_copied result ≡ blob_of container.now name.now self.now.blobs.part.blobs }
+    {
+        self.blobs.get(container, name)
+    }
+
     /// The changes that asks make at a moment, or the first rule that refuses them.
     #[tactic(auto, unfolding(crate::specs::Stores::outcomes))]
     pub(crate) fn plan(
@@ -97,8 +119,16 @@ impl Stores {
         ensures { IsPlanOf (parts_of self.now)
             (outcomes (parts_of self.now) (asks_of asks.now) m) result }
     {
-        match self.queues.plan(alloc, &asks.queues, m) {
-            Ok(queues) => Ok(StoreChanges { queues }),
+        let queues = self.queues.plan(alloc, &asks.queues, m);
+        let blobs = self.blobs.plan(alloc, &asks.blobs, m);
+        let leases = self.leases.plan(alloc, &asks.leases, m);
+        let others = both_planned(blobs, leases);
+        match both_planned(queues, others) {
+            Ok((queues, (blobs, leases))) => Ok(StoreChanges {
+                queues,
+                blobs,
+                leases,
+            }),
             Err(fault) => Err(fault),
         }
     }
@@ -122,9 +152,33 @@ impl Stores {
         ensures staged { IfOk result (λ staged. IsStaged self.new staged) }
         ensures err { OnErr result (IsIdle self.new) }
     {
-        match self.queues.stage(changes.queues) {
-            Ok(queues) => Ok(StagedStores { queues }),
-            Err(fault) => Err(fault),
+        let StoreChanges {
+            queues,
+            blobs,
+            leases,
+        } = changes;
+        let queues = match self.queues.stage(queues) {
+            Ok(queues) => queues,
+            Err(fault) => return Err(fault),
+        };
+        let blobs = match self.blobs.stage(blobs) {
+            Ok(blobs) => blobs,
+            Err(fault) => {
+                self.queues.unstage(queues);
+                return Err(fault);
+            }
+        };
+        match self.leases.stage(leases) {
+            Ok(leases) => Ok(StagedStores {
+                queues,
+                blobs,
+                leases,
+            }),
+            Err(fault) => {
+                self.queues.unstage(queues);
+                self.blobs.unstage(blobs);
+                Err(fault)
+            }
         }
     }
 
@@ -135,9 +189,15 @@ impl Stores {
         ensures done { done_of result ≡ made_done self.old staged }
         ensures idle { IsIdle self.new }
     {
-        let StagedStores { queues } = staged;
+        let StagedStores {
+            queues,
+            blobs,
+            leases,
+        } = staged;
         StoresDone {
             queues: self.queues.settle(queues),
+            blobs: self.blobs.settle(blobs),
+            leases: self.leases.settle(leases),
         }
     }
 
@@ -147,8 +207,14 @@ impl Stores {
         ensures parts { parts_of self.new ≡ parts_of self.old }
         ensures idle { IsIdle self.new }
     {
-        let StagedStores { queues } = staged;
+        let StagedStores {
+            queues,
+            blobs,
+            leases,
+        } = staged;
         self.queues.unstage(queues);
+        self.blobs.unstage(blobs);
+        self.leases.unstage(leases);
     }
 }
 
@@ -159,15 +225,49 @@ impl StoreChanges {
         ensures loud { (parts : Parts) → result ≡ false
             → planned parts self.now ≡ Makes (changed parts self.now) (answered self.now) }
     {
-        self.queues.is_quiet()
+        self.queues.is_quiet() || self.blobs.is_quiet()
     }
 
     /// What is answered.
     pub(crate) fn into_done(self) -> StoresDone
         ensures { done_of result ≡ answered self }
     {
+        let StoreChanges {
+            queues,
+            blobs,
+            leases,
+        } = self;
         StoresDone {
-            queues: self.queues.into_done(),
+            queues: queues.into_done(),
+            blobs: blobs.into_done(),
+            leases: leases.into_done(),
         }
     }
+}
+
+// Two plans as one.
+fn both_planned<A: Drop, B: Drop>(
+    first: Result<A, PlanFault>,
+    second: Result<B, PlanFault>,
+) -> Result<(A, B), PlanFault>
+    ensures { result ≡ both_planned first second }
+{
+    match (first, second) {
+        (Ok(first), Ok(second)) => Ok((first, second)),
+        (Err(fault), Ok(_)) | (Ok(_), Err(fault)) => Err(fault),
+        (Err(PlanFault::Rule(rule)), Err(PlanFault::Rule(other))) => {
+            Err(PlanFault::Rule(first_rule(rule, other)))
+        }
+        (Err(_), Err(_)) => Err(PlanFault::NoMemory),
+    }
+}
+
+// Rules are told in order of their numbers.
+fn first_rule(rule: Rule, other: Rule) -> Rule
+    ensures { result ≡ first_rule rule other }
+{
+    if rule.number() <= other.number() {
+        return rule;
+    }
+    other
 }

@@ -18,6 +18,17 @@ impl Model for LeaseChange {
     ghost view = { λ c. record { acts = c.acts.items; done = c.done } };
 }
 
+impl LeaseChange {
+    ghost use Rattle.std.specs.Prelude.{◌≡◌};
+
+    /// What is answered.
+    pub fn into_done(self) -> LeaseDone
+        ensures { result ≡ self.done }
+    {
+        self.done
+    }
+}
+
 /// A change that has all its memory. It has to be settled or unstaged.
 pub struct StagedLeases {
     pub(crate) acts: Vec<Act>,

@@ -6,7 +6,8 @@ use Rattle.fh_event.specs.declared.reply.Reply.{Reply}
 use Rattle.fh_event.specs.Judging.{Quiets, Makes}
 use Rattle.fh_hub.specs.Stores.{Parts, Asks, Done, outcomes, too_full}
 use Rattle.fh_hub.specs.StoreEdits.{asks_of, changed, answered}
-use Rattle.fh_hub.specs.World.{World, Quieted, reply_of, full_rule, judged}
+use Rattle.fh_hub.specs.Replies.{reply_of}
+use Rattle.fh_hub.specs.World.{World, Quieted, full_rule, judged}
 use Rattle.fh_hub.specs.State.{world_of}
 use Rattle.fh_hub.proofs.Recording.{made_is_recorded, made_is_refused, step_is_at, step_at_asks, fits}
 use Rattle.fh_hub.proofs.state.State.plan_asks.Goals as goal
@@ -30,7 +31,7 @@ returns-clause-ok c =
       planned = record {
         steps = step_is_at w command m (search rules) c.requires.own_moment ∙ step_at_asks w command m all c.requires.asks ∙ records;
         own_moment = c.requires.own_moment;
-        outcome = record { asks = all; moment = m; is = done };
+        outcome = record { command = command; asks = all; moment = m; asked = c.requires.asks; is = done };
         texts = c.entry_size.ensures.short (omega (arith, fit.short, c.entry_size.ensures.size m));
         short = fit.short;
         room = fit.room;
