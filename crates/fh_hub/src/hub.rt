@@ -26,9 +26,9 @@ impl<'d, J: Disk> Hub<'d, J> {
     ghost use Rattle.std.specs.Prelude.{◌≡◌, ◌⊎◌, ⊤, ◌≤◌, ◌∷◌, ◌++◌, [], true, false, List, None, Some, IfOk, IfErr, OnOk, OnErr, IfSome, IsErrOf, MatchResult};
     ghost use Rattle.fh_base.specs.Faults.{Rose};
     ghost use Rattle.fh_base.specs.Moments.{greatest_moment};
-    ghost use Rattle.fh_disk.specs.Disk.{OnlyTold};
+    ghost use Rattle.fh_disk.specs.Disk.{OnlyTold, StaysTold};
     ghost use Rattle.fh_disk.specs.Moments.{LeavesOnly};
-    ghost use Rattle.fh_journal.specs.Keeping.{Keeps, StaysTold};
+    ghost use Rattle.fh_journal.specs.Keeping.{Keeps};
     ghost use Rattle.fh_journal.specs.Mounting.{IsBeingMade};
     ghost use Rattle.fh_queues.specs.Places.{place_of};
     ghost use Rattle.fh_hub.specs.World.{Recorded, step, effective_moment};
@@ -130,7 +130,7 @@ impl<'d, J: Disk> Hub<'d, J> {
 
     /// Makes one step at a moment in milliseconds. All memory is taken before the first call on the disk; a
     /// step that isn't recorded makes none. After any fault the world and the history are as before.
-    #[tactic(auto, using(crate::proofs::Crashes::stays_as_told))]
+    #[tactic(auto, using(fh_disk::proofs::Told::stays_as_told))]
     pub fn step(&mut self, alloc: Global, command: &Command, now: u64) -> Result<Reply, StepFault>
         ensures answers { Answers result (step (world_of self.old.state) command.now now)
             (faults_of self.old) (faults_of self.new) }
@@ -173,7 +173,7 @@ impl<'d, J: Disk> Hub<'d, J> {
     }
 
     // Records a change: it is staged, its entry is appended, and then it is settled.
-    #[tactic(auto, using(crate::proofs::Crashes::stays_as_told))]
+    #[tactic(auto, using(fh_disk::proofs::Told::stays_as_told))]
     fn record(&mut self, change: Change, payload: Bytes) -> Result<Reply, StepFault>
         ghost e: { Entry }
         requires planned { IsPlannedAs self.old.state change e }

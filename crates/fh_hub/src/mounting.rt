@@ -1,10 +1,10 @@
 // How a journal is mounted: its frames are read, and their entries are replayed.
 ghost use Rattle.std.specs.Prelude.{◌≡◌, ◌⊎◌, ◌≤◌, ◌∷◌, ◌++◌, [], false, List, ℕ, None, Some, IfOk, IfErr, OnOk, OnErr, IfSome};
-ghost use Rattle.fh_disk.specs.Disk.{OnlyTold};
+ghost use Rattle.fh_disk.specs.Disk.{OnlyTold, StaysTold};
 ghost use Rattle.fh_disk.specs.Moments.{LeavesOnly};
 ghost use Rattle.fh_journal.specs.Frames.{payloads_of as payloads_in, frames_from};
 ghost use Rattle.fh_journal.specs.Journal.{first_gate};
-ghost use Rattle.fh_journal.specs.Keeping.{Keeps, StaysTold};
+ghost use Rattle.fh_journal.specs.Keeping.{Keeps};
 ghost use Rattle.fh_journal.specs.Mounting.{IsBeingMade};
 ghost use Rattle.fh_hub.specs.Replay.{Entry, entry_for, payloads_of};
 ghost use Rattle.fh_event.specs.Entries.{IsEntry};

@@ -2,9 +2,10 @@
 use Rattle.std.proofs.Common.{◌≡◌, ◌⊎◌, inl, inr, ⊎_elim, ℕ, List, [], ◌++◌, Option, Some, None, IfSome, refl, sym, ◌∙◌, ap, subst, append_assoc, append-nil}
 use Rattle.fh_disk.specs.Moments.{LeavesOnly}
 use Rattle.fh_disk.specs.declared.disk.Disk.{Ghosts}
-use Rattle.fh_journal.specs.Keeping.{StaysTold}
+use Rattle.fh_disk.specs.Disk.{StaysTold}
 use Rattle.fh_journal.specs.Mounting.{IsBeingMade}
-use Rattle.fh_journal.proofs.Moments.{joins, widens, where_told, where_both}
+use Rattle.fh_disk.proofs.Moments.{joins, widens}
+use Rattle.fh_disk.proofs.Told.{where_both}
 use Rattle.fh_hub.specs.Hub.{StandsForHistory}
 use Rattle.fh_hub.specs.Replay.{Entry}
 use Rattle.fh_script.specs.Answerer.{StandsEither}

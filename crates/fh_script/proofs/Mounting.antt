@@ -1,10 +1,10 @@
 -- How a run begins behind a mount, and how it ends at one that failed.
 use Rattle.std.proofs.Common.{◌≡◌, ◌⊎◌, inl, inr, ℕ, ◌==◌, Bool, true, false, List, [], ◌++◌, Option, Some, None, IfSome, Ok, Err, refl, sym, subst, append-nil, arith}
 use Rattle.std.proofs.lemmas.Bool.Decides.{nat_tests}
-use Rattle.fh_disk.specs.Disk.{OnlyTold}
+use Rattle.fh_disk.specs.Disk.{OnlyTold, StaysTold}
 use Rattle.fh_disk.specs.Moments.{LeavesOnly}
 use Rattle.fh_disk.specs.declared.disk.Disk.{Ghosts}
-use Rattle.fh_journal.specs.Keeping.{Keeps, StaysTold}
+use Rattle.fh_journal.specs.Keeping.{Keeps}
 use Rattle.fh_hub.specs.Damaged.{Tells, unmounted_code}
 use Rattle.fh_hub.specs.Hub.{StandsForHistory}
 use Rattle.fh_hub.specs.Mounting.{CountsFaults, MountsHistory, UnlessDiskFault}
