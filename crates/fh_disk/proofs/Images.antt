@@ -12,7 +12,7 @@ use Rattle.fh_disk.specs.Images.{synced_by, unsynced_by, greatest_length, IsImag
 use Rattle.fh_disk.specs.Recorded.{replayed, Leaves}
 
 -- an image torn once more
-torn_image : (synced : List ℕ) (writes : List (ℕ × ℕ)) (at n : ℕ) (old new : List ℕ) → IsImage synced writes old → Torn at n old new → IsImage synced ((at, n) ∷ writes) new
+pub torn_image : (synced : List ℕ) (writes : List (ℕ × ℕ)) (at n : ℕ) (old new : List ℕ) → IsImage synced writes old → Torn at n old new → IsImage synced ((at, n) ∷ writes) new
 torn_image synced writes at n old new image torn = record {
   untouched = λ i within free. ⊎_elim
       (λ below. torn.before i (omega (arith, image.no_shorter)) below ∙ image.untouched i within free.1)

@@ -1,5 +1,5 @@
 -- What the calls of a disk do to its file, and what a crash between two syncs may leave of it.
-use Rattle.std.specs.Prelude.{◌≡◌, ⊤, ℕ, ◌+◌, ◌-◌, ◌<◌, ◌≤◌, max, List, ◌++◌, length, take, drop, replicate, slice_get, Option, Some, None}
+use Rattle.std.specs.Prelude.{◌≡◌, ⊤, ℕ, ◌+◌, ◌-◌, ◌<◌, ◌≤◌, max, Bool, true, false, List, ◌++◌, length, take, drop, replicate, slice_get, Option, Some, None}
 
 -- the file with these bytes at this place, behind zeros where the place is past its end
 abbrev pub written_at : ℕ → List ℕ → List ℕ → List ℕ
@@ -10,6 +10,11 @@ pub record ReadsAt (file : List ℕ) (at : ℕ) (buf : List ℕ) (n : ℕ) : Typ
   pub bytes : take n buf ≡ take n (drop at file)
   pub within : n ≤ length file - at
   pub some : 0 < length buf → at < length file → 0 < n
+
+-- The buffer is full with the bytes of the file from this place on, or the file has fewer, which stand at its front.
+abbrev pub Fills : List ℕ → ℕ → List ℕ → Bool → Type 0
+Fills file at buf true = (buf ≡ take (length buf) (drop at file)) × (length buf ≤ length file - at)
+Fills file at buf false = (take (length file - at) buf ≡ drop at file) × (length file - at < length buf)
 
 -- After a write of n bytes at a place that a crash cut short, or that failed: any bytes in that range and past the
 -- old end, the same elsewhere, and a length between the old one and that of the whole write.
@@ -24,6 +29,12 @@ abbrev pub TornTold : ℕ → ℕ → Option (List ℕ) → Option (List ℕ) �
 TornTold at n None new = new ≡ None
 TornTold at n (Some old) None = ⊥
 TornTold at n (Some old) (Some new) = Torn at n old new
+
+-- bytes that are told stay told, and others stay untold
+abbrev pub StaysTold : Option (List ℕ) → Option (List ℕ) → Type 0
+StaysTold None now = now ≡ None
+StaysTold (Some was) None = ⊥
+StaysTold (Some was) (Some now) = ⊤
 
 -- each new outcome of a crash is an old outcome after a step
 abbrev pub Follows : (List ℕ → List ℕ → Type 0) → (List ℕ → Type 0) → (List ℕ → Type 0) → Type 0
@@ -41,3 +52,8 @@ Only file images = (c : List ℕ) → images c → c ≡ file
 abbrev pub OnlyTold : Option (List ℕ) → (List ℕ → Type 0) → Type 0
 OnlyTold None images = ⊤
 OnlyTold (Some file) images = Only file images
+
+-- what reads give has P, and so has each image
+pub record Each (file : List ℕ) (images : List ℕ → Type 0) (P : List ℕ → Type 0) : Type 0 where
+  pub as_read : P file
+  pub after_crash : (c : List ℕ) → images c → P c

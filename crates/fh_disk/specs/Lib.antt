@@ -2,6 +2,7 @@ pub mod Disk
 pub mod Images
 pub mod MemoryDisks
 pub mod Moments
+pub mod Pieces
 pub mod Recorded
 pub mod RecordedLaws
 pub mod Torn

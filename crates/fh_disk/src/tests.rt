@@ -1,6 +1,6 @@
 // What no clause says: that calls succeed with ample memory, that images differ, and a real file.
 use super::*;
-use fh_base::{Failed, Failing, FaultPlan};
+use fh_base::{Bytes, Failed, Failing, FaultPlan};
 use std::process::Abort;
 use std::test::Fail;
 use std::time::SystemTime;
@@ -43,6 +43,26 @@ fn disks_in_memory_write_and_read(rt: HostRuntime) -> Result<(), Fail> {
         plain.image(alloc, 7)?.as_slice(),
         [5, 0, 7, 8, 9].as_slice()
     );
+    Ok(())
+}
+
+#[test]
+fn pieces_are_written_before_one_sync_and_read_whole(rt: HostRuntime) -> Result<(), Fail> {
+    let alloc = rt.alloc();
+    let piece = |at: u64, bytes: &[u8]| Bytes::from_slice(alloc, bytes).map(|bytes| Piece {
+        at,
+        bytes,
+    });
+    let pieces = [piece(4, &[5, 6])?, piece(0, &[1, 2])?, piece(1, &[9])?];
+    let mut disk = MemoryDisk::recording(alloc, Vec::new(alloc), no_faults(&rt))?;
+    write_pieces(&mut disk, &pieces)?;
+    assert_eq!(rt; disk.bytes(), [1, 9, 0, 0, 5, 6].as_slice());
+    assert_eq!(rt; disk.plan.calls, 4);
+    let mut bytes = [7; 3];
+    assert_eq!(rt; read_fully(&mut disk, 2, &mut bytes)?, true);
+    assert_eq!(rt; bytes.as_slice(), [0, 0, 5].as_slice());
+    assert_eq!(rt; read_fully(&mut disk, 5, &mut bytes)?, false);
+    assert_eq!(rt; bytes[0], 6);
     Ok(())
 }
 

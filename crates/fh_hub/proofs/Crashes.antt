@@ -1,10 +1,11 @@
 -- What a crash during a step may be read as.
-use Rattle.std.proofs.Common.{◌≡◌, inl, inr, ℕ, Bool, false, List, [], ◌∷◌, ◌++◌, Option, Some, None, IfSome, refl, sym, ◌∙◌, subst, ap}
+use Rattle.std.proofs.Common.{◌≡◌, inl, inr, ℕ, Bool, false, List, [], ◌∷◌, ◌++◌, Option, Some, None, IfSome, sym, ◌∙◌, subst, ap}
 use Rattle.fh_disk.specs.Moments.{LeavesOnly}
+use Rattle.fh_disk.proofs.Moments.{started, widens}
+use Rattle.fh_disk.proofs.Told.{where_told}
 use Rattle.fh_journal.specs.Journal.{IsJournalOf, MayReadAs}
-use Rattle.fh_journal.specs.Keeping.{Keeps, IsBeforeOrAfter, StaysTold}
+use Rattle.fh_journal.specs.Keeping.{Keeps, IsBeforeOrAfter}
 use Rattle.fh_journal.proofs.Bytes.{reads}
-use Rattle.fh_journal.proofs.Moments.{started, widens, where_told}
 use Rattle.fh_hub.specs.Replay.{Entry, bytes_of, payloads_of}
 use Rattle.fh_hub.specs.Hub.{KeepsHistory, MayStandFor, StandsForHistory}
 use Rattle.fh_hub.proofs.Replays.{payloads_push}
@@ -53,7 +54,3 @@ keeps_pushed told images history e failed payload gate is keeps =
     of_told : (bytes : Option (List ℕ)) → Keeps bytes images false (payloads_of (history ++ e ∷ [])) [] gate → Keeps bytes images false (payloads_of (history ++ e ∷ [])) (bytes_of failed) gate
     of_told None keeps = tt
     of_told (Some file) keeps = record { as_read = keeps.as_read; after_crash = keeps.after_crash }
-
-pub stays_as_told : (told : Option (List ℕ)) → StaysTold told told
-stays_as_told None = refl
-stays_as_told (Some file) = tt

@@ -1,13 +1,15 @@
 -- Why a journal isn't mounted.
-use Rattle.std.proofs.Common.{◌≡◌, inl, inr, ℕ, ◌<◌, ◌≤◌, Bool, true, false, List, [], ◌∷◌, ◌++◌, length, Option, Some, None, Ok, Err, refl, sym, ap, ◌∙◌, subst, arith, length-append}
+use Rattle.std.proofs.Common.{◌≡◌, ◌⊎◌, inl, inr, ℕ, ◌<◌, ◌≤◌, Bool, true, false, List, [], ◌∷◌, ◌++◌, length, Option, Some, None, Ok, Err, refl, sym, ap, ◌∙◌, subst, arith, length-append}
 use Rattle.std.specs.Prelude.{nat_le, if◌then◌else◌, Result, IfErr, IfSome}
 use Rattle.std.proofs.lemmas.Bool.Decides.{nat_tests}
+use Rattle.fh_disk.specs.Moments.{LeavesOnly}
+use Rattle.fh_disk.specs.declared.disk.Disk.{Ghosts}
 use Rattle.fh_event.specs.Entries.{IsEntry}
 use Rattle.fh_event.proofs.EntryLaws.{read_again}
 use Rattle.fh_journal.specs.Frames.{payloads_of as payloads_in, frames_from}
 use Rattle.fh_journal.specs.Journal.{opened, gate_behind, Stands}
 use Rattle.fh_journal.specs.Keeping.{Keeps}
-use Rattle.fh_journal.specs.Mounting.{MountsTold, mounted_file, fresh_file}
+use Rattle.fh_journal.specs.Mounting.{IsBeingMade, MountsTold, mounted_file, fresh_file}
 use Rattle.fh_journal.specs.declared.frames.Frame.{Frame}
 use Rattle.fh_journal.specs.declared.mounting.Prepared.{Prepared}
 use Rattle.fh_journal.specs.declared.faults.MountFault.{MountFault}
@@ -18,7 +20,7 @@ use Rattle.fh_hub.proofs.Histories.{broken_history}
 use Rattle.fh_hub.specs.World.{World}
 use Rattle.fh_hub.specs.Replay.{Entry, payloads_of, replay, IsLegal, IsNext}
 use Rattle.fh_hub.specs.State.{HubState, world_of}
-use Rattle.fh_hub.specs.Hub.{StandsForHistory}
+use Rattle.fh_hub.specs.Hub.{KeepsHistory, NewImagesHave, StandsForHistory}
 use Rattle.fh_hub.specs.Mounting.{HasEntryReason, HasPlanReason, HasReplayReason, IsRefusedAt, BreaksEntryAt, MountsHistory, MountsBytes, fault_of_entry, fault_of_mount}
 use Rattle.fh_hub.specs.declared.faults.HubFault.{HubFault}
 use Rattle.fh_hub.specs.declared.faults.HubFault.TheVariants.{BadHeader, BadFrame, DiskFault, NoMemory}
@@ -148,11 +150,42 @@ stood_before (Some was) (Some now) mounted history stands = by_length (nat_le (l
         let same : now ≡ was = rw long at mounted in
         subst (λ (file : List ℕ). StandsForHistory history file) same stands
 
+-- where no frame is torn, whatever entry may have failed
+pub keeps_whole : (told : Option (List ℕ)) (images : List ℕ → Type 0) (payloads : List (List ℕ)) (history : List Entry) (gate : ℕ)
+    → payloads_of history ≡ payloads → Keeps told images false payloads [] gate → (failed : Entry)
+    → KeepsHistory told images false history failed gate
+keeps_whole told images payloads history gate is keeps failed = rw is keeps
+
 -- the file before a mount stood for the history that it found
-pub stood : (was now : Option (List ℕ)) (images : List ℕ → Type 0) (history : List Entry) (gate : ℕ) → MountsHistory was now None
-    → Keeps now images false (payloads_of history) [] gate → IfSome was (StandsForHistory history)
-stood was now images history gate mounted keeps = stood_before was now mounted history (as_read now keeps)
+pub stood : (was now : Option (List ℕ)) (images : List ℕ → Type 0) (payloads : List (List ℕ)) (history : List Entry) (gate : ℕ)
+    → MountsHistory was now None → payloads_of history ≡ payloads → Keeps now images false payloads [] gate
+    → IfSome was (StandsForHistory history)
+stood was now images payloads history gate mounted is keeps = stood_before was now mounted history (as_read now (rw is keeps))
   where
     as_read : (told : Option (List ℕ)) → Keeps told images false (payloads_of history) [] gate → IfSome told (StandsForHistory history)
     as_read None keeps = tt
     as_read (Some file) keeps = inr (gate, keeps.as_read)
+
+module _ {D : Type 0} (J : Ghosts D) (old new : D) where
+  -- what a crash leaves while a file is made
+  pub made_images : IfSome (J.told old) (λ file. LeavesOnly J.moment J.left_since old new (λ c. J.may_leave old c ⊎ IsBeingMade file c))
+      → NewImagesHave J old new (λ c. IfSome (J.told old) (λ file. IsBeingMade file c))
+  made_images = of_told (J.told old)
+    where
+      of_told : (bytes : Option (List ℕ)) → IfSome bytes (λ file. LeavesOnly J.moment J.left_since old new (λ c. J.may_leave old c ⊎ IsBeingMade file c))
+          → IfSome bytes (λ _. LeavesOnly J.moment J.left_since old new (λ c. J.may_leave old c ⊎ IfSome bytes (λ file. IsBeingMade file c)))
+      of_told None leaves = tt
+      of_told (Some file) leaves = leaves
+
+  -- a file that stands for a history
+  pub same_images : (history : List Entry)
+      → IfSome (J.told old) (λ file. StandsForHistory history file → LeavesOnly J.moment J.left_since old new (λ c. J.may_leave old c ⊎ StandsForHistory history c))
+      → IfSome (J.told old) (StandsForHistory history) → NewImagesHave J old new (StandsForHistory history)
+  same_images history = of_told (J.told old)
+    where
+      of_told : (bytes : Option (List ℕ))
+          → IfSome bytes (λ file. StandsForHistory history file → LeavesOnly J.moment J.left_since old new (λ c. J.may_leave old c ⊎ StandsForHistory history c))
+          → IfSome bytes (StandsForHistory history)
+          → IfSome bytes (λ _. LeavesOnly J.moment J.left_since old new (λ c. J.may_leave old c ⊎ StandsForHistory history c))
+      of_told None leaves stood = tt
+      of_told (Some file) leaves stood = leaves stood

@@ -71,6 +71,11 @@ abbrev pub LeavesSince : {D : Type 0} {J : Ghosts D} → Hub D J → Hub D J →
 LeavesSince {D} {J} old new P =
     IfSome (J.told old.journal.disk.now) (λ _. LeavesOnly J.moment J.left_since old.journal.disk.now new.journal.disk.now P)
 
+-- where a disk tells, each file that a crash since the old one may leave is an image from then, or has P
+abbrev pub NewImagesHave : {D : Type 0} → Ghosts D → D → D → (List ℕ → Type 0) → Type 0
+NewImagesHave J old new P =
+    IfSome (J.told old) (λ _. LeavesOnly J.moment J.left_since old new (λ c. J.may_leave old c ⊎ P c))
+
 -- how often a call on its disk has failed
 abbrev pub faults_of : {D : Type 0} {J : Ghosts D} → Hub D J → ℕ
 faults_of {D} {J} hub = J.disk_faults hub.journal.disk.now

@@ -26,17 +26,15 @@ impl<'d, J: Disk> Hub<'d, J> {
     ghost use Rattle.std.specs.Prelude.{◌≡◌, ◌⊎◌, ⊤, ◌≤◌, ◌∷◌, ◌++◌, [], true, false, List, None, Some, IfOk, IfErr, OnOk, OnErr, IfSome, IsErrOf, MatchResult};
     ghost use Rattle.fh_base.specs.Faults.{Rose};
     ghost use Rattle.fh_base.specs.Moments.{greatest_moment};
-    ghost use Rattle.fh_disk.specs.Disk.{OnlyTold};
-    ghost use Rattle.fh_disk.specs.Moments.{LeavesOnly};
-    ghost use Rattle.fh_journal.specs.Keeping.{Keeps, StaysTold};
+    ghost use Rattle.fh_disk.specs.Disk.{OnlyTold, StaysTold};
     ghost use Rattle.fh_journal.specs.Mounting.{IsBeingMade};
     ghost use Rattle.fh_queues.specs.Places.{place_of};
     ghost use Rattle.fh_hub.specs.World.{Recorded, step, effective_moment};
     ghost use Rattle.fh_event.specs.Entries.{IsEntry};
-    ghost use Rattle.fh_hub.specs.Replay.{Entry, payloads_of, world_after, noted, IsLegal};
+    ghost use Rattle.fh_hub.specs.Replay.{Entry, world_after, noted, IsLegal};
     ghost use Rattle.fh_hub.specs.State.{world_of, IsFaithful, IsIdle, IsUnchanged};
     ghost use Rattle.fh_hub.specs.Plans.{entry_at, IsPlannedAs};
-    ghost use Rattle.fh_hub.specs.Hub.{Answers, HasStepCause, IsDurable, KeepsIn, LeavesSince, MayStandFor, StandsForHistory, faults_of, is_recorded};
+    ghost use Rattle.fh_hub.specs.Hub.{Answers, HasStepCause, IsDurable, KeepsHistory, KeepsIn, LeavesSince, MayStandFor, NewImagesHave, StandsForHistory, faults_of, is_recorded};
     ghost use Rattle.fh_hub.specs.Mounting.{CountsFaults, MountsHistory, UnlessDiskFault};
 
     /// The hub over a disk whose journal was prepared. Takes no memory.
@@ -47,6 +45,10 @@ impl<'d, J: Disk> Hub<'d, J> {
         ensures state { result.state ≡ state }
         ensures gate { result.journal.gate ≡ state.gate }
         ensures whole { result.journal.torn ≡ false }
+        ensures keeps { (failed : Entry)
+            → KeepsHistory (J.told disk.entry.now) (J.may_leave disk.entry.now) false
+            state.history failed state.gate
+            → KeepsIn result failed }
     {
         Hub {
             journal: Journal::over(alloc, disk, state.gate()),
@@ -56,13 +58,11 @@ impl<'d, J: Disk> Hub<'d, J> {
 
     /// Mounts the journal of a disk, by `prepare` and `over`. Beside a fault it gives the disk back.
     pub fn mount(alloc: Global, disk: &'d mut J) -> Result<Hub<'d, J>, (HubFault, &'d mut J)>
-        ensures stands { IfOk result
-            (λ hub. Keeps (J.told hub.journal.disk.now) (J.may_leave hub.journal.disk.now) false
-            (payloads_of hub.state.history) [] hub.journal.gate) }
+        ensures stands { IfOk result (λ hub. (failed : Entry) → KeepsIn hub failed) }
         ensures faithful { IfOk result (λ hub. IsFaithful hub.state) }
         ensures whole { IfOk result (λ hub. hub.journal.torn ≡ false) }
         ensures durable { MatchResult result
-            (λ hub. OnlyTold (J.told hub.journal.disk.now) (J.may_leave hub.journal.disk.now))
+            IsDurable
             (λ refused. UnlessDiskFault {T = ⊤}
             (OnlyTold (J.told refused.1.now) (J.may_leave refused.1.now)) (Err refused.0)) }
         ensures stood { IfOk result
@@ -71,26 +71,19 @@ impl<'d, J: Disk> Hub<'d, J> {
             (λ hub. MountsHistory (J.told disk.entry.now) (J.told hub.journal.disk.now) None) }
         ensures refused { IfErr result
             (λ refused. MountsHistory (J.told disk.entry.now) (J.told refused.1.now) (Some refused.0)) }
-        ensures passed { IfOk result
-            (λ hub. J.disk_faults hub.journal.disk.now ≡ J.disk_faults disk.entry.now) }
+        ensures passed { IfOk result (λ hub. faults_of hub ≡ J.disk_faults disk.entry.now) }
         ensures counted { IfErr result (λ refused. CountsFaults {T = ⊤}
             (J.disk_faults disk.entry.now) (J.disk_faults refused.1.now) (Err refused.0)) }
         ensures any_moment { MatchResult result
-            (λ hub. IfSome (J.told disk.entry.now)
-            (λ file. LeavesOnly J.moment J.left_since disk.entry.now hub.journal.disk.now
-            (λ c. J.may_leave disk.entry.now c ⊎ IsBeingMade file c)))
-            (λ refused. IfSome (J.told disk.entry.now)
-            (λ file. LeavesOnly J.moment J.left_since disk.entry.now refused.1.now
-            (λ c. J.may_leave disk.entry.now c ⊎ IsBeingMade file c))) }
-        ensures same_history { (history : List Entry) → MatchResult result
-            (λ hub. IfSome (J.told disk.entry.now) (λ file. StandsForHistory history file
-            → LeavesOnly J.moment J.left_since disk.entry.now hub.journal.disk.now
-            (λ c. J.may_leave disk.entry.now c ⊎ StandsForHistory history c)))
-            (λ refused. IfSome (J.told disk.entry.now) (λ file. StandsForHistory history file
-            → LeavesOnly J.moment J.left_since disk.entry.now refused.1.now
-            (λ c. J.may_leave disk.entry.now c ⊎ StandsForHistory history c))) }
-        ensures count { MatchResult result
-            (λ hub. J.disk_faults disk.entry.now ≤ J.disk_faults hub.journal.disk.now)
+            (λ hub. NewImagesHave J.Disk disk.entry.now hub.journal.disk.now
+            (λ c. IfSome (J.told disk.entry.now) (λ file. IsBeingMade file c)))
+            (λ refused. NewImagesHave J.Disk disk.entry.now refused.1.now
+            (λ c. IfSome (J.told disk.entry.now) (λ file. IsBeingMade file c))) }
+        ensures same_history { (history : List Entry)
+            → IfSome (J.told disk.entry.now) (StandsForHistory history) → MatchResult result
+            (λ hub. NewImagesHave J.Disk disk.entry.now hub.journal.disk.now (StandsForHistory history))
+            (λ refused. NewImagesHave J.Disk disk.entry.now refused.1.now (StandsForHistory history)) }
+        ensures count { MatchResult result (λ hub. J.disk_faults disk.entry.now ≤ faults_of hub)
             (λ refused. J.disk_faults disk.entry.now ≤ J.disk_faults refused.1.now) }
         ensures same { MatchResult result (λ hub. hub.journal.disk.ghost_name ≡ disk.entry.ghost_name)
             (λ refused. refused.1.ghost_name ≡ disk.entry.ghost_name) }
@@ -130,7 +123,7 @@ impl<'d, J: Disk> Hub<'d, J> {
 
     /// Makes one step at a moment in milliseconds. All memory is taken before the first call on the disk; a
     /// step that isn't recorded makes none. After any fault the world and the history are as before.
-    #[tactic(auto, using(crate::proofs::Crashes::stays_as_told))]
+    #[tactic(auto, using(fh_disk::proofs::Told::stays_as_told))]
     pub fn step(&mut self, alloc: Global, command: &Command, now: u64) -> Result<Reply, StepFault>
         ensures answers { Answers result (step (world_of self.old.state) command.now now)
             (faults_of self.old) (faults_of self.new) }
@@ -173,7 +166,7 @@ impl<'d, J: Disk> Hub<'d, J> {
     }
 
     // Records a change: it is staged, its entry is appended, and then it is settled.
-    #[tactic(auto, using(crate::proofs::Crashes::stays_as_told))]
+    #[tactic(auto, using(fh_disk::proofs::Told::stays_as_told))]
     fn record(&mut self, change: Change, payload: Bytes) -> Result<Reply, StepFault>
         ghost e: { Entry }
         requires planned { IsPlannedAs self.old.state change e }

@@ -1,17 +1,15 @@
 // How a journal is mounted: its frames are read, and their entries are replayed.
 ghost use Rattle.std.specs.Prelude.{◌≡◌, ◌⊎◌, ◌≤◌, ◌∷◌, ◌++◌, [], false, List, ℕ, None, Some, IfOk, IfErr, OnOk, OnErr, IfSome};
-ghost use Rattle.fh_disk.specs.Disk.{OnlyTold};
-ghost use Rattle.fh_disk.specs.Moments.{LeavesOnly};
+ghost use Rattle.fh_disk.specs.Disk.{OnlyTold, StaysTold};
 ghost use Rattle.fh_journal.specs.Frames.{payloads_of as payloads_in, frames_from};
 ghost use Rattle.fh_journal.specs.Journal.{first_gate};
-ghost use Rattle.fh_journal.specs.Keeping.{Keeps, StaysTold};
 ghost use Rattle.fh_journal.specs.Mounting.{IsBeingMade};
 ghost use Rattle.fh_hub.specs.Replay.{Entry, entry_for, payloads_of};
 ghost use Rattle.fh_event.specs.Entries.{IsEntry};
 ghost use Rattle.fh_hub.specs.History.{entry_of};
 ghost use Rattle.fh_hub.specs.State.{IsIdle, IsFaithful, world_of};
 ghost use Rattle.fh_hub.specs.Plans.{IsPlannedAs};
-ghost use Rattle.fh_hub.specs.Hub.{StandsForHistory};
+ghost use Rattle.fh_hub.specs.Hub.{KeepsHistory, NewImagesHave, StandsForHistory};
 ghost use Rattle.fh_hub.specs.Mounting.{CountsFaults, HasEntryReason, HasPlanReason, HasReadReason, HasReplayReason, MountsHistory, UnlessDiskFault};
 
 use crate::faults::{EntryFault, HubFault};
@@ -26,10 +24,10 @@ use std::alloc::Global;
 /// Mounts a journal: its frames are read, and their entries are replayed. It begins with a sync. A file of
 /// at most 7 bytes stands for no entries, and is made anew where it isn't exactly that; nothing else is
 /// written, and a file that is refused stays as it is.
-#[tactic(auto, using(crate::proofs::Mounted::frames_refused, crate::proofs::Mounted::stood))]
+#[tactic(auto, using(crate::proofs::Mounted::frames_refused, crate::proofs::Mounted::keeps_whole, crate::proofs::Mounted::stood))]
 pub fn prepare<J: Disk>(alloc: Global, disk: &mut J) -> Result<State, HubFault>
-    ensures stands { IfOk result (λ state. Keeps (J.told disk.new) (J.may_leave disk.new) false
-        (payloads_of state.history) [] state.gate) }
+    ensures stands { IfOk result (λ state. (failed : Entry) → KeepsHistory (J.told disk.new)
+        (J.may_leave disk.new) false state.history failed state.gate) }
     ensures faithful { IfOk result IsFaithful }
     ensures idle { IfOk result IsIdle }
     ensures durable { UnlessDiskFault (OnlyTold (J.told disk.new) (J.may_leave disk.new)) result }
@@ -38,11 +36,10 @@ pub fn prepare<J: Disk>(alloc: Global, disk: &mut J) -> Result<State, HubFault>
     ensures refused { IfErr result
         (λ fault. MountsHistory (J.told disk.old) (J.told disk.new) (Some fault)) }
     ensures counted { CountsFaults (J.disk_faults disk.old) (J.disk_faults disk.new) result }
-    ensures any_moment { IfSome (J.told disk.old) (λ file. LeavesOnly J.moment J.left_since disk.old disk.new
-        (λ c. J.may_leave disk.old c ⊎ IsBeingMade file c)) }
-    ensures same_history { (history : List Entry) → IfSome (J.told disk.old)
-        (λ file. StandsForHistory history file → LeavesOnly J.moment J.left_since disk.old disk.new
-        (λ c. J.may_leave disk.old c ⊎ StandsForHistory history c)) }
+    ensures any_moment { NewImagesHave J.Disk disk.old disk.new
+        (λ c. IfSome (J.told disk.old) (λ file. IsBeingMade file c)) }
+    ensures same_history { (history : List Entry) → IfSome (J.told disk.old) (StandsForHistory history)
+        → NewImagesHave J.Disk disk.old disk.new (StandsForHistory history) }
     ensures told { StaysTold (J.told disk.old) (J.told disk.new) }
     ensures count { J.disk_faults disk.old ≤ J.disk_faults disk.new }
 {

@@ -8,7 +8,7 @@ use Rattle.std.proofs.lemmas.List.{append-nil, take_at, drop_at, drop-drop}
 use Rattle.std.proofs.lemmas.List.Elements.{All-append, All-replicate}
 use Rattle.fh_disk.specs.Disk.{written_at, Torn}
 use Rattle.fh_journal.specs.Journal.{header, frame, opened, IsShort, Stands, InDoubt, IsOf, MayReadAs}
-use Rattle.fh_journal.proofs.Torn.{torn_tail, torn_past, torn_first}
+use Rattle.fh_disk.proofs.Torn.{torn_tail, torn_past, torn_first}
 
 -- a write that begins inside the file
 pub written_inside : (front back bytes : List ℕ) (at : ℕ) → length front ≡ at

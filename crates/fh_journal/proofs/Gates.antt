@@ -3,7 +3,8 @@ use Rattle.std.proofs.Common.{◌≡◌, inr, ℕ, zero, suc, ◌+◌, ◌-◌, 
 use Rattle.std.specs.Int.{to_be_bytes, from_be_bytes}
 use Rattle.std.proofs.lemmas.List.{drop-drop}
 use Rattle.std.proofs.lemmas.Nat.{be_bytes_4, from_be_bytes-to_be_bytes_4}
-use Rattle.fh_journal.specs.Reading.{Fills, OpensAt, FrameAt, RuleBrokenAt, ReadsSize, ReadsFrame}
+use Rattle.fh_disk.specs.Disk.{Fills}
+use Rattle.fh_journal.specs.Reading.{OpensAt, FrameAt, RuleBrokenAt, ReadsSize, ReadsFrame}
 use Rattle.fh_journal.specs.Mounting.{length_field}
 use Rattle.fh_journal.specs.declared.faults.MountFault.{MountFault}
 use Rattle.fh_journal.specs.declared.faults.MountFault.TheVariants.{BadFrame}

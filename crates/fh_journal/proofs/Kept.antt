@@ -1,51 +1,12 @@
 -- What a disk keeps over the writes of an append and of a mend.
-use Rattle.std.proofs.Common.{◌≡◌, ℕ, ◌+◌, Bool, true, false, List, [], ◌∷◌, ◌++◌, length, Option, Some, None, IfSome, sym, subst, w32}
+use Rattle.std.proofs.Common.{◌≡◌, ℕ, ◌+◌, Bool, true, false, List, [], ◌∷◌, ◌++◌, length, Option, w32}
 use Rattle.std.specs.Int.{to_be_bytes}
 use Rattle.std.specs.Option.{option_map}
 use Rattle.fh_disk.specs.Disk.{written_at, Torn, TornTold, Follows, OnlyTold}
-use Rattle.fh_disk.specs.Torn.{torn_written}
+use Rattle.fh_disk.proofs.Told.{torn_each, only_each}
 use Rattle.fh_journal.specs.Journal.{IsShort, IsOf}
-use Rattle.fh_journal.specs.Keeping.{Each, Keeps, StaysTold}
+use Rattle.fh_journal.specs.Keeping.{Keeps}
 use Rattle.fh_journal.proofs.Bytes.{staged, opens_gate, closes_gate, stays_closed, stays_in_doubt}
-
--- a write that passed is one that might have been torn
-pub told_torn : (told now : Option (List ℕ)) (at : ℕ) (bytes : List ℕ) → now ≡ option_map (written_at at bytes) told
-    → TornTold at (length bytes) told now
-told_torn None now at bytes is = is
-told_torn (Some file) now at bytes is = rw is (torn_written at bytes file)
-
-pub torn_stays : (told now : Option (List ℕ)) (at n : ℕ) → TornTold at n told now → StaysTold told now
-torn_stays None now at n torn = torn
-torn_stays (Some file) None at n torn = absurd torn
-torn_stays (Some file) (Some new) at n torn = tt
-
-pub same_torn : (told mid now : Option (List ℕ)) (at n : ℕ) → TornTold at n told mid → now ≡ mid → TornTold at n told now
-same_torn told mid now at n torn same = rw same torn
-
--- a write keeps what each of its torn outcomes keeps
-torn_each : (told now : Option (List ℕ)) (images later P Q : List ℕ → Type 0) (at n : ℕ)
-    → ((d c : List ℕ) → P d → Torn at n d c → Q c)
-    → IfSome told (λ file. Each file images P) → TornTold at n told now → Follows (Torn at n) images later
-    → IfSome now (λ file. Each file later Q)
-torn_each None None images later P Q at n step each torn follows = tt
-torn_each None (Some new) images later P Q at n step each torn follows = absurd (cc torn)
-torn_each (Some file) None images later P Q at n step each torn follows = absurd torn
-torn_each (Some file) (Some new) images later P Q at n step each torn follows = record {
-  as_read = step file new each.as_read torn;
-  after_crash = λ c left. let from = follows c left in step from.0 c (each.after_crash from.0 from.1) from.2;
-}
-
--- a write that was synced leaves one image
-only_each : (told now : Option (List ℕ)) (images later P Q : List ℕ → Type 0) (at : ℕ) (bytes : List ℕ)
-    → ((file : List ℕ) → P file → Q (written_at at bytes file))
-    → IfSome told (λ file. Each file images P) → now ≡ option_map (written_at at bytes) told → OnlyTold now later
-    → IfSome now (λ file. Each file later Q)
-only_each None now images later P Q at bytes step each is only = rw is tt
-only_each (Some file) None images later P Q at bytes step each is only = tt
-only_each (Some file) (Some new) images later P Q at bytes step each is only =
-    let same : new ≡ written_at at bytes file = cc is in
-    let here : Q new = subst Q (sym same) (step file each.as_read) in
-    record { as_read = here; after_crash = λ c left. subst Q (sym (only c left)) here }
 
 module _ (told now : Option (List ℕ)) (images later : List ℕ → Type 0) (payloads : List (List ℕ)) (gate : ℕ) where
   -- a write behind the gate

@@ -1,10 +1,7 @@
 pub mod Bytes
-pub mod Filling
 pub mod Gates
 pub mod Kept
 pub mod Making
-pub mod Moments
 pub mod Readings
 pub mod Since
-pub mod Torn
 pub mod Walk

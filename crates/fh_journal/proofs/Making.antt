@@ -4,9 +4,9 @@ use Rattle.std.specs.List.{flat_map}
 use Rattle.std.specs.Int.{to_be_bytes}
 use Rattle.fh_disk.specs.Disk.{NoNewImage}
 use Rattle.fh_disk.specs.Moments.{LeavesOnly}
+use Rattle.fh_disk.proofs.Moments.{joins}
 use Rattle.fh_journal.specs.Journal.{header, frame, opened, IsJournalOf}
 use Rattle.fh_journal.specs.Mounting.{IsBeingMade}
-use Rattle.fh_journal.proofs.Moments.{joins}
 
 short_opened : (file : List ℕ) (payloads : List (List ℕ)) (rest : List ℕ) → length file ≤ 7 → file ≡ opened payloads ++ rest → 1 ≤ length rest → payloads ≡ []
 short_opened file [] rest short is some = refl

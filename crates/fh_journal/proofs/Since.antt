@@ -1,11 +1,12 @@
 -- What a crash since the begin of an append or of a mend leaves.
 use Rattle.std.proofs.Common.{◌≡◌, inl, inr, ⊎_elim, ℕ, ◌+◌, Bool, true, false, List, [], Option, IfSome, Result, Ok, Err, OnErr}
-use Rattle.fh_disk.specs.Disk.{Torn}
+use Rattle.fh_disk.specs.Disk.{StaysTold, Torn}
 use Rattle.fh_disk.specs.Moments.{LeavesOnly}
+use Rattle.fh_disk.proofs.Moments.{joins, widens, started}
+use Rattle.fh_disk.proofs.Told.{where_told, where_both, where_each}
 use Rattle.fh_journal.specs.Journal.{Stands, InDoubt, IsOf, MayReadAs}
-use Rattle.fh_journal.specs.Keeping.{Keeps, IsBeforeOrAfter, StaysTold}
+use Rattle.fh_journal.specs.Keeping.{Keeps, IsBeforeOrAfter}
 use Rattle.fh_journal.proofs.Bytes.{stays_closed, stays_in_doubt, doubt_reads, reads}
-use Rattle.fh_journal.proofs.Moments.{joins, widens, started, where_told, where_both, where_each}
 
 pub on_err : {T E P : Type 0} (r : Result T E) → P → OnErr r P
 on_err (Ok x) p = tt

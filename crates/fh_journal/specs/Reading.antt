@@ -1,5 +1,5 @@
 -- What reads of a file find: a buffer that is filled, and what stands at a gate.
-use Rattle.std.specs.Prelude.{◌≡◌, ◌≢◌, ⊤, ℕ, ◌-◌, ◌<◌, ◌≤◌, Bool, true, false, List, ◌∷◌, ◌++◌, length, take, drop, Option, Some, None, Result, Ok, Err}
+use Rattle.std.specs.Prelude.{◌≡◌, ◌≢◌, ⊤, ℕ, ◌≤◌, Bool, true, false, List, ◌∷◌, ◌++◌, take, drop, Option, Some, None, Result, Ok, Err}
 use Rattle.std.specs.Int.{w32, to_be_bytes}
 use Rattle.fh_base.specs.Limits.{longest_payload}
 use Rattle.fh_journal.specs.Journal.{frame, header, IsShort, Stands}
@@ -9,11 +9,6 @@ use Rattle.fh_journal.specs.declared.faults.FrameRule.{FrameRule}
 use Rattle.fh_journal.specs.declared.faults.MountFault.{MountFault}
 use Rattle.fh_journal.specs.declared.faults.MountFault.TheVariants.{BadHeader, BadFrame, DiskFault, NoMemory}
 use Rattle.fh_journal.specs.declared.mounting.Prepared.{Prepared}
-
--- the buffer is full with the bytes from this place on, or the file ends before
-abbrev pub Fills : List ℕ → ℕ → List ℕ → Bool → Type 0
-Fills file at buf true = (buf ≡ take (length buf) (drop at file)) × (length buf ≤ length file - at)
-Fills file at buf false = length file - at < length buf
 
 -- a gate at this place is closed
 pub record EndsAt (file : List ℕ) (at : ℕ) : Type 0 where

@@ -1,19 +1,18 @@
 // How the frames of a journal are read, each by reads of its own.
 ghost use Rattle.std.specs.Prelude.{◌≡◌, ◌≤◌, ◌<◌, ◌+◌, ◌^◌, true, length, take, IfOk, IfSome};
 ghost use Rattle.fh_base.specs.Limits.{longest_payload};
+ghost use Rattle.fh_disk.specs.Moments.{OnlyReads};
 ghost use Rattle.fh_journal.specs.Frames.{payloads_of, frames_from};
 ghost use Rattle.fh_journal.specs.Journal.{first_gate, header};
-ghost use Rattle.fh_journal.specs.Keeping.{OnlyReads};
 ghost use Rattle.fh_journal.specs.Mounting.{CountsFaults};
 ghost use Rattle.fh_journal.specs.Reading.{ReadsSize, ReadsFrame, ReadsFrames};
 
 use crate::frames::{Frame, Frames};
 use crate::journal::{FIRST_GATE, OPEN, gate_behind};
 use crate::mounting::Prepared;
-use crate::reading::read_fully;
 use crate::{FrameRule, MountFault};
 use fh_base::{Bytes, LONGEST_PAYLOAD};
-use fh_disk::Disk;
+use fh_disk::{Disk, read_fully};
 use std::alloc::Global;
 
 /// The frames of a file from the first gate on, and the place of the gate that ends them.

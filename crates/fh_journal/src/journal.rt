@@ -4,17 +4,16 @@ ghost use Rattle.std.specs.Option.{option_map};
 ghost use Rattle.std.specs.Int.{w32, to_be_bytes};
 ghost use Rattle.fh_base.specs.Faults.{Rose};
 ghost use Rattle.fh_base.specs.Limits.{longest_payload};
-ghost use Rattle.fh_disk.specs.Disk.{OnlyTold};
+ghost use Rattle.fh_disk.specs.Disk.{OnlyTold, StaysTold};
 ghost use Rattle.fh_disk.specs.Moments.{LeavesOnly};
 ghost use Rattle.fh_journal.specs.Frames.{payloads_of, frames_from};
 ghost use Rattle.fh_journal.specs.Journal.{IsJournalOf, MayReadAs, first_gate, full_at, gate_behind};
 ghost use Rattle.fh_journal.specs.Mounting.{CountsFaults, IsBeingMade, MountsTold, UnlessDiskFault, mounted_file};
-ghost use Rattle.fh_journal.specs.Keeping.{Keeps, IsBeforeOrAfter, StaysTold};
+ghost use Rattle.fh_journal.specs.Keeping.{Keeps, IsBeforeOrAfter};
 
-use crate::writing::write_durably;
 use crate::{AppendFault, Frames, MountFault, prepare};
 use fh_base::NoMemory;
-use fh_disk::Disk;
+use fh_disk::{Disk, write_durably};
 use std::alloc::Global;
 
 /// The value of a gate in front of a whole frame.

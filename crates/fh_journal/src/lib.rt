@@ -17,8 +17,6 @@ mod frames;
 mod journal;
 mod laws;
 mod mounting;
-mod reading;
-mod writing;
 
 pub use faults::{AppendFault, FrameRule, MountFault};
 pub use frames::{Frame, Frames};

@@ -2,11 +2,11 @@
 ghost use Rattle.std.specs.Prelude.{◌≡◌, ◌⊎◌, ◌≤◌, ◌<◌, [], false, ℕ, List, IfSome, IfOk, OnOk, length};
 ghost use Rattle.std.specs.Option.{option_map};
 ghost use Rattle.fh_base.specs.Faults.{HasCause};
-ghost use Rattle.fh_disk.specs.Disk.{OnlyTold};
-ghost use Rattle.fh_disk.specs.Moments.{LeavesOnly};
+ghost use Rattle.fh_disk.specs.Disk.{OnlyTold, StaysTold};
+ghost use Rattle.fh_disk.specs.Moments.{LeavesOnly, OnlyReads};
 ghost use Rattle.fh_journal.specs.Frames.{payloads_of, frames_from};
 ghost use Rattle.fh_journal.specs.Journal.{IsJournalOf, first_gate};
-ghost use Rattle.fh_journal.specs.Keeping.{Keeps, OnlyReads, StaysTold};
+ghost use Rattle.fh_journal.specs.Keeping.{Keeps};
 ghost use Rattle.fh_journal.specs.Mounting.{CountsFaults, IsBeingMade, MountsTold, UnlessDiskFault, fresh_file};
 ghost use Rattle.fh_journal.specs.Reading.{BeginsWithHeader, IsFresh};
 
@@ -14,10 +14,8 @@ use crate::MountFault;
 use crate::frame_reading::read_frames;
 use crate::frames::Frames;
 use crate::journal::FIRST_GATE;
-use crate::reading::read_fully;
-use crate::writing::write_durably;
 use fh_base::Failed;
-use fh_disk::Disk;
+use fh_disk::{Disk, read_fully, write_durably};
 use std::alloc::Global;
 
 /// The letters FNHJ, and version 1.

@@ -1,10 +1,10 @@
 -- What each image of a disk stands for since a run began.
-use Rattle.std.proofs.Common.{◌≡◌, ◌⊎◌, inl, inr, ⊎_elim, ℕ, List, [], ◌++◌, Option, Some, None, IfSome, refl, sym, ◌∙◌, ap, subst, append_assoc, append-nil}
+use Rattle.std.proofs.Common.{◌≡◌, ◌⊎◌, inl, inr, ⊎_elim, ℕ, List, [], ◌++◌, IfSome, refl, sym, ◌∙◌, ap, subst, append_assoc, append-nil}
 use Rattle.fh_disk.specs.Moments.{LeavesOnly}
 use Rattle.fh_disk.specs.declared.disk.Disk.{Ghosts}
-use Rattle.fh_journal.specs.Keeping.{StaysTold}
-use Rattle.fh_journal.specs.Mounting.{IsBeingMade}
-use Rattle.fh_journal.proofs.Moments.{joins, widens, where_told, where_both}
+use Rattle.fh_disk.specs.Disk.{StaysTold}
+use Rattle.fh_disk.proofs.Moments.{joins, widens}
+use Rattle.fh_disk.proofs.Told.{where_told, where_both}
 use Rattle.fh_hub.specs.Hub.{StandsForHistory}
 use Rattle.fh_hub.specs.Replay.{Entry}
 use Rattle.fh_script.specs.Answerer.{StandsEither}
@@ -45,37 +45,11 @@ module _ {D : Type 0} (J : Ghosts D) (first : D) where
       }
 
   -- behind a mount
-  pub mounted_images : (mid : D) (opening : List Entry)
-      → IfSome (J.told first)
-      (λ file. StandsForHistory opening file
-      → LeavesOnly J.moment J.left_since first mid (λ c. J.may_leave first c ⊎ StandsForHistory opening c))
-      → IfSome (J.told first) (StandsForHistory opening) → crash_of J first mid (StandsForPart opening [])
-  mounted_images mid opening = of_told (J.told first)
-    where
-      of_told : (bytes : Option (List ℕ))
-          → IfSome bytes (λ file. StandsForHistory opening file
-          → LeavesOnly J.moment J.left_since first mid (λ c. J.may_leave first c ⊎ StandsForHistory opening c))
-          → IfSome bytes (StandsForHistory opening)
-          → IfSome bytes (λ _. LeavesOnly J.moment J.left_since first mid
-          (λ c. J.may_leave first c ⊎ StandsForPart opening [] c))
-      of_told None leaves stood = tt
-      of_told (Some file) leaves stood =
-          widens J.moment J.left_since first mid _ _ (leaves stood)
-          (λ c left. ⊎_elim (λ a. inl a)
-          (λ b. inr (record { front = []; rest = []; whole = refl; stands = rw append-nil b }))
-          left)
-
-  -- a mount that failed
-  pub unmounted_images : (new : D)
-      → IfSome (J.told first)
-      (λ file. LeavesOnly J.moment J.left_since first new (λ c. J.may_leave first c ⊎ IsBeingMade file c))
-      → crash_of J first new (λ c. IfSome (J.told first) (λ file. IsBeingMade file c))
-  unmounted_images new = of_told (J.told first)
-    where
-      of_told : (bytes : Option (List ℕ))
-          → IfSome bytes (λ file. LeavesOnly J.moment J.left_since first new
-          (λ c. J.may_leave first c ⊎ IsBeingMade file c))
-          → IfSome bytes (λ _. LeavesOnly J.moment J.left_since first new
-          (λ c. J.may_leave first c ⊎ IfSome bytes (λ file. IsBeingMade file c)))
-      of_told None leaves = tt
-      of_told (Some file) leaves = leaves
+  pub mounted_images : (mid : D) (opening : List Entry) → crash_of J first mid (StandsForHistory opening)
+      → crash_of J first mid (StandsForPart opening [])
+  mounted_images mid opening leaves =
+      where_told (J.told first) _ _ leaves
+      (λ only. widens J.moment J.left_since first mid _ _ only
+      (λ c left. ⊎_elim (λ a. inl a)
+      (λ b. inr (record { front = []; rest = []; whole = refl; stands = rw append-nil b }))
+      left))

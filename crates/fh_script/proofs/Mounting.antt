@@ -1,10 +1,9 @@
 -- How a run begins behind a mount, and how it ends at one that failed.
 use Rattle.std.proofs.Common.{◌≡◌, ◌⊎◌, inl, inr, ℕ, ◌==◌, Bool, true, false, List, [], ◌++◌, Option, Some, None, IfSome, Ok, Err, refl, sym, subst, append-nil, arith}
 use Rattle.std.proofs.lemmas.Bool.Decides.{nat_tests}
-use Rattle.fh_disk.specs.Disk.{OnlyTold}
-use Rattle.fh_disk.specs.Moments.{LeavesOnly}
+use Rattle.fh_disk.specs.Disk.{OnlyTold, StaysTold}
 use Rattle.fh_disk.specs.declared.disk.Disk.{Ghosts}
-use Rattle.fh_journal.specs.Keeping.{Keeps, StaysTold}
+use Rattle.fh_journal.specs.Keeping.{Keeps}
 use Rattle.fh_hub.specs.Damaged.{Tells, unmounted_code}
 use Rattle.fh_hub.specs.Hub.{StandsForHistory}
 use Rattle.fh_hub.specs.Mounting.{CountsFaults, MountsHistory, UnlessDiskFault}
@@ -28,8 +27,7 @@ module _ {D : Type 0} {J : Ghosts D} (first disk : D) (answerer : Answerer D J) 
       → Keeps (J.told disk) (J.may_leave disk) false (payloads_of state.history) [] state.gate
       → IfSome (J.told first) (StandsForHistory state.history)
       → StaysTold (J.told first) (J.told disk)
-      → IfSome (J.told first) (λ file. StandsForHistory state.history file
-      → LeavesOnly J.moment J.left_since first disk (λ c. J.may_leave first c ⊎ StandsForHistory state.history c))
+      → crash_of J first disk (StandsForHistory state.history)
       → J.disk_faults disk ≡ J.disk_faults first
       → Running (outside_at J left reads written writes first)
       (outside_at J left reads written writes answerer.hub.journal.disk.now) first answerer
@@ -51,7 +49,7 @@ module _ {D : Type 0} {J : Ghosts D} (first disk : D) (answerer : Answerer D J) 
     whole = whole;
     holds = rw (disk_is, gate_is, state_is) keeps;
     told = rw disk_is told;
-    images = rw disk_is (mounted_images J first disk state.history leaves stood);
+    images = rw disk_is (mounted_images J first disk state.history leaves);
     counts = record { reading = refl; disk = rw disk_is passed; writing = refl };
   }
     where

@@ -7,7 +7,8 @@ use Rattle.fh_journal.specs.Keeping.{Keeps}
 use Rattle.fh_journal.specs.Journal.{IsJournalOf, MayReadAs}
 use Rattle.fh_journal.proofs.Bytes.{reads}
 use Rattle.fh_journal.proofs.Readings.{journal_once}
-use Rattle.fh_journal.proofs.Moments.{widens, where_told}
+use Rattle.fh_disk.proofs.Moments.{widens}
+use Rattle.fh_disk.proofs.Told.{where_told}
 use Rattle.fh_hub.specs.World.{Stepped, Refused, Read, Quieted, Recorded}
 use Rattle.fh_hub.specs.Hub.{KeepsHistory, MayStandFor, StandsForHistory, is_recorded}
 use Rattle.fh_hub.specs.History.{entry_of}

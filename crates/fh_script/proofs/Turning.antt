@@ -11,8 +11,8 @@ use Rattle.fh_base.specs.declared.ends.PlainEnd.{PlainEnd}
 use Rattle.fh_base.specs.declared.ends.PlainEnd.TheVariants.{Finished, ReadFault, DiskFault, WriteFault, LongLine, NoMemory}
 use Rattle.fh_base.proofs.Appending.{appends-append}
 use Rattle.fh_disk.specs.declared.disk.Disk.{Ghosts}
-use Rattle.fh_journal.specs.Keeping.{StaysTold}
-use Rattle.fh_journal.proofs.Moments.{stays_told}
+use Rattle.fh_disk.specs.Disk.{StaysTold}
+use Rattle.fh_disk.proofs.Told.{stays_told}
 use Rattle.fh_hub.specs.Hub.{LeavesSince, StandsForHistory, faults_of}
 use Rattle.fh_hub.specs.Replay.{Entry, IsLegal, replay}
 use Rattle.fh_hub.specs.State.{world_of}

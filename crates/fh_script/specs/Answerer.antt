@@ -8,7 +8,8 @@ use Rattle.fh_event.specs.declared.command.Command.{Command}
 use Rattle.fh_event.specs.declared.faults.StepFault.{StepFault}
 use Rattle.fh_event.specs.declared.faults.StepFault.TheVariants.{Rule, NoMemory, DiskFault}
 use Rattle.fh_event.specs.declared.reply.Reply.{Reply}
-use Rattle.fh_journal.specs.Keeping.{Keeps, StaysTold}
+use Rattle.fh_disk.specs.Disk.{StaysTold}
+use Rattle.fh_journal.specs.Keeping.{Keeps}
 use Rattle.fh_hub.specs.declared.hub.Hub.{Hub}
 use Rattle.fh_hub.specs.Hub.{StandsForHistory}
 use Rattle.fh_hub.specs.Replay.{Entry, payloads_of}

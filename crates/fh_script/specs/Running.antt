@@ -5,7 +5,7 @@ use Rattle.fh_base.specs.declared.ends.PlainEnd.{PlainEnd}
 use Rattle.fh_base.specs.declared.source.Source.{Ghosts as SourceGhosts}
 use Rattle.fh_base.specs.declared.sink.Sink.{Ghosts as SinkGhosts}
 use Rattle.fh_disk.specs.declared.disk.Disk.{Ghosts}
-use Rattle.fh_journal.specs.Keeping.{StaysTold}
+use Rattle.fh_disk.specs.Disk.{StaysTold}
 use Rattle.fh_hub.specs.State.{world_of}
 use Rattle.fh_script.specs.declared.answerer.Answerer.{Answerer}
 use Rattle.fh_script.specs.Answerer.{HoldsIn}

@@ -52,7 +52,7 @@ impl<'d, J: Disk> Answerer<'d, J> {
 
     /// Does what a line says, and gives the text that answers it: empty for a line of no words. Where that
     /// text finds no memory the step may have been made.
-    #[tactic(auto, unfolding(crate::specs::Machine::answer_line), using(fh_hub::proofs::Crashes::stays_as_told))]
+    #[tactic(auto, unfolding(crate::specs::Machine::answer_line), using(fh_disk::proofs::Told::stays_as_told))]
     pub fn answer(&mut self, alloc: Global, line: &[u8]) -> Result<String, AnswerFault>
         requires whole { self.old.hub.journal.torn ≡ false }
         requires holds { HoldsIn self.old.hub }

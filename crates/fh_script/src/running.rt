@@ -1,7 +1,7 @@
 // The top call of the script.
 ghost use Rattle.std.specs.Prelude.{◌≡◌, ◌≤◌, ◌⊎◌, ◌==◌, ◌<◌, [], true, false, not, IfNone, MatchOption};
 ghost use Rattle.fh_base.specs.Ends.{Concludes, plain_code, plain_line};
-ghost use Rattle.fh_journal.specs.Keeping.{StaysTold};
+ghost use Rattle.fh_disk.specs.Disk.{StaysTold};
 ghost use Rattle.fh_script.specs.Answerer.{HoldsIn};
 ghost use Rattle.fh_script.specs.Ends.{code_of};
 ghost use Rattle.fh_script.specs.Outside.{Counts, Outside, crash_of, outside_of};

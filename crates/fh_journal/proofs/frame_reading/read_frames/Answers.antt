@@ -1,7 +1,7 @@
 use Rattle.std.proofs.Common.{◌≡◌, ◌+◌, ◌<◌, [], ◌∷◌, ◌++◌, length, Err, ◌∙◌, ap, arith}
 use Rattle.std.proofs.lemmas.Grind.{common_steps}
 use Rattle.fh_journal.specs.Frames.{payloads_of}
-use Rattle.fh_journal.proofs.Moments.{quiet_both}
+use Rattle.fh_disk.proofs.Moments.{quiet_both}
 use Rattle.fh_journal.proofs.Walk.{place_behind-push, payloads_of-push, places_more, told_goes_on, told_stands, told_refused}
 use Rattle.fh_journal.proofs.frame_reading.read_frames.Goals as goal
 

@@ -1,6 +1,6 @@
 use Rattle.std.proofs.Common.{◌≡◌, ◌-◌, ◌<◌}
 use Rattle.fh_journal.specs.Frames.{payloads_of, frames_from}
-use Rattle.fh_journal.specs.Keeping.{OnlyReads}
+use Rattle.fh_disk.specs.Moments.{OnlyReads}
 use Rattle.fh_journal.proofs.Walk.{IsReadTold, place_behind}
 use Rattle.fh_journal.proofs.frame_reading.read_frames.Given as goal
 

@@ -1,7 +1,7 @@
 use Rattle.std.proofs.Common.{inl, inr, ◌≡◌, ◌⊎◌, ◌+◌, ℕ, Bool, true, false, List, [], ◌∷◌, ◌++◌, Option, length, ◌∙◌, subst, arith}
+use Rattle.fh_disk.proofs.Told.{stays_told, torn_stays}
 use Rattle.fh_journal.specs.Keeping.{Keeps, IsBeforeOrAfter}
-use Rattle.fh_journal.proofs.Kept.{keeps_closed, keeps_staged, keeps_doubt, keeps_opened, torn_stays, whole_keeps}
-use Rattle.fh_journal.proofs.Moments.{stays_told}
+use Rattle.fh_journal.proofs.Kept.{keeps_closed, keeps_staged, keeps_doubt, keeps_opened, whole_keeps}
 use Rattle.fh_journal.proofs.Since.{begun, one_more, stage_since, gate_since, closed_reads, gate_reads, on_err}
 use Rattle.fh_journal.proofs.journal.Journal.append.Goals as goal
 

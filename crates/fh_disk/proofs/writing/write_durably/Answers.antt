@@ -1,9 +1,9 @@
 use Rattle.std.proofs.Common.{ℕ, List, length}
 use Rattle.fh_disk.specs.Disk.{Torn}
 use Rattle.fh_disk.specs.Torn.{torn_same}
-use Rattle.fh_journal.proofs.Kept.{told_torn, same_torn}
-use Rattle.fh_journal.proofs.Moments.{started, goes_on}
-use Rattle.fh_journal.proofs.writing.write_durably.Goals as goal
+use Rattle.fh_disk.proofs.Told.{told_torn, same_torn}
+use Rattle.fh_disk.proofs.Moments.{started, goes_on}
+use Rattle.fh_disk.proofs.writing.write_durably.Goals as goal
 
 pub returns-in_err-write_at-clause-time : goal.returns-in_err-write_at-clause-time
 returns-in_err-write_at-clause-time g c =

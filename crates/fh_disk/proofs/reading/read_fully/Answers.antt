@@ -1,7 +1,7 @@
 use Rattle.std.proofs.Common.{refl, ◌∙◌, arith}
-use Rattle.fh_journal.proofs.Moments.{quiet_start, quiet_call}
-use Rattle.fh_journal.proofs.Filling.{starts, goes_on, fits, ends}
-use Rattle.fh_journal.proofs.reading.read_fully.Goals as goal
+use Rattle.fh_disk.proofs.Moments.{quiet_start, quiet_call}
+use Rattle.fh_disk.proofs.Filling.{starts, goes_on, fits, ends}
+use Rattle.fh_disk.proofs.reading.read_fully.Goals as goal
 
 pub loop-filled-init : goal.loop-filled-init
 loop-filled-init g c = record {

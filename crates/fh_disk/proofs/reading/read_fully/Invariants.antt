@@ -1,7 +1,7 @@
 use Rattle.std.proofs.Common.{◌≡◌, ℕ, ◌-◌, ◌<◌, ◌≤◌, get_or, length, IfSome}
-use Rattle.fh_journal.specs.Keeping.{OnlyReads}
-use Rattle.fh_journal.proofs.Filling.{IsFilling}
-use Rattle.fh_journal.proofs.reading.read_fully.Given as goal
+use Rattle.fh_disk.specs.Moments.{OnlyReads}
+use Rattle.fh_disk.proofs.Filling.{IsFilling}
+use Rattle.fh_disk.proofs.reading.read_fully.Given as goal
 
 abbrev pub invariant-loop-filled : goal.invariant-loop-filled
 invariant-loop-filled g l = record {

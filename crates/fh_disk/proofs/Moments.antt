@@ -1,8 +1,7 @@
 -- How a run of device calls goes on, and what holds of each image since it began.
-use Rattle.std.proofs.Common.{◌≡◌, inl, inr, ⊎_elim, ℕ, List, Option, Some, None, IfSome, refl, ◌∙◌, arith}
+use Rattle.std.proofs.Common.{◌≡◌, inl, inr, ⊎_elim, ℕ, List, Option, refl, ◌∙◌, arith}
 use Rattle.fh_disk.specs.Disk.{NoNewImage}
-use Rattle.fh_disk.specs.Moments.{Elapses, LeavesOnly}
-use Rattle.fh_journal.specs.Keeping.{Each, OnlyReads, StaysTold}
+use Rattle.fh_disk.specs.Moments.{Elapses, LeavesOnly, OnlyReads}
 
 module _ {D : Type 0} (moment : D → ℕ) (left_since : D → ℕ → List ℕ → Type 0) where
   -- before the first call
@@ -59,30 +58,3 @@ module _ {D : Type 0} (told : D → Option (List ℕ)) (may_leave : D → List �
     only_old =
         joins moment left_since old mid new (may_leave old) (may_leave mid) (may_leave old) first.only_old second.only_old (λ c was. was) first.no_new;
   }
-
--- what follows where the bytes are told
-pub where_told : (told : Option (List ℕ)) (A B : Type 0) → IfSome told (λ _. A) → (A → B) → IfSome told (λ _. B)
-where_told None A B a then = tt
-where_told (Some file) A B a then = then a
-
-pub where_both : (told now : Option (List ℕ)) (A B C : Type 0) → StaysTold told now → IfSome told (λ _. A) → IfSome now (λ _. B) → (A → B → C)
-    → IfSome told (λ _. C)
-where_both None now A B C stays a b then = tt
-where_both (Some file) None A B C stays a b then = absurd stays
-where_both (Some file) (Some new) A B C stays a b then = then a b
-
--- what follows from the images
-pub where_each : (told : Option (List ℕ)) (images P : List ℕ → Type 0) (B : Type 0) → IfSome told (λ file. Each file images P)
-    → (((c : List ℕ) → images c → P c) → B) → IfSome told (λ _. B)
-where_each None images P B each then = tt
-where_each (Some file) images P B each then = then each.after_crash
-
-pub stays_told : (told mid now : Option (List ℕ)) → StaysTold told mid → StaysTold mid now → StaysTold told now
-stays_told None mid now first second = told_none mid now first second
-  where
-    told_none : (mid now : Option (List ℕ)) → mid ≡ None → StaysTold mid now → now ≡ None
-    told_none None now first second = second
-    told_none (Some file) now first second = absurd (cc first)
-stays_told (Some file) None now first second = absurd first
-stays_told (Some file) (Some mid) None first second = absurd second
-stays_told (Some file) (Some mid) (Some now) first second = tt

@@ -1,8 +1,7 @@
 -- A buffer that is filled from a file, piece by piece.
 use Rattle.std.proofs.Common.{◌≡◌, ℕ, ◌+◌, ◌-◌, ◌≤◌, List, ◌++◌, length, take, drop, Option, Some, None, IfSome, true, sym, ◌∙◌, ap, arith, take-add, take_all, length-take, length-append, refl}
 use Rattle.std.proofs.lemmas.List.{drop-drop, take-append-le, take_at, drop_at}
-use Rattle.fh_disk.specs.Disk.{ReadsAt}
-use Rattle.fh_journal.specs.Reading.{Fills}
+use Rattle.fh_disk.specs.Disk.{Fills, ReadsAt}
 
 -- so many bytes at the front of the buffer are those of the file from this place on
 pub record IsFilling (file : List ℕ) (at filled : ℕ) (buf : List ℕ) : Type 0 where

@@ -1,14 +1,15 @@
-// Reads that go on until a buffer is full.
+// A read that goes on until a buffer is full.
 ghost use Rattle.std.specs.Prelude.{◌+◌, ◌<◌, ◌^◌, ℕ, length, slice_index, IfOk, IfSome};
 ghost use Rattle.fh_base.specs.Faults.{HasCause};
-ghost use Rattle.fh_journal.specs.Keeping.{OnlyReads};
-ghost use Rattle.fh_journal.specs.Reading.{Fills};
+ghost use Rattle.fh_disk.specs.Disk.{Fills};
+ghost use Rattle.fh_disk.specs.Moments.{OnlyReads};
 
+use crate::Disk;
 use fh_base::Failed;
-use fh_disk::Disk;
 
-/// Fills the buffer with the bytes from a place on. It answers whether the file has so many.
-pub(crate) fn read_fully<J: Disk>(disk: &mut J, at: u64, buf: &mut [u8]) -> Result<bool, Failed>
+/// Fills the buffer with the bytes from a place on, and says whether the file has so many. Where it has
+/// fewer they stand at the front of the buffer.
+pub fn read_fully<J: Disk>(disk: &mut J, at: u64, buf: &mut [u8]) -> Result<bool, Failed>
     requires { at + length buf.old < 2 ^ 64 }
     ensures bytes { IfOk result (λ full. IfSome (J.told disk.old) (λ file. Fills file at buf.new full)) }
     ensures fit { (i : ℕ) → slice_index buf.new i < 256 }

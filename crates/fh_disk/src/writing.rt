@@ -5,12 +5,12 @@ ghost use Rattle.fh_base.specs.Faults.{HasCause};
 ghost use Rattle.fh_disk.specs.Disk.{written_at, Torn, TornTold, Follows, OnlyTold};
 ghost use Rattle.fh_disk.specs.Moments.{LeavesOnly};
 
+use crate::Disk;
 use fh_base::Failed;
-use fh_disk::Disk;
 
 /// Writes bytes at a place, and then syncs. At each moment a crash leaves one of the images from before,
 /// torn by this write or not.
-pub(crate) fn write_durably<J: Disk>(disk: &mut J, at: u64, bytes: &[u8]) -> Result<(), Failed>
+pub fn write_durably<J: Disk>(disk: &mut J, at: u64, bytes: &[u8]) -> Result<(), Failed>
     ensures written { OnOk result (J.told disk.new ≡ option_map (written_at at bytes.now) (J.told disk.old)) }
     ensures durable { OnOk result (OnlyTold (J.told disk.new) (J.may_leave disk.new)) }
     ensures torn { TornTold at (length bytes.now) (J.told disk.old) (J.told disk.new) }
