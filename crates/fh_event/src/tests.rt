@@ -1,5 +1,5 @@
 use super::*;
-use fh_base::{Moment, QueueName, Rule, Text, utf8_text};
+use fh_base::{Moment, QueueName, Rule, Text, Texts, utf8_text};
 use std::test::Fail;
 
 const MADE: [u8; 19] = [
@@ -52,10 +52,48 @@ fn an_entry_is_read(rt: HostRuntime) -> Result<(), Fail> {
     Ok(())
 }
 
+// At moment 258, a function `f` on the queue `orders`: 16 at once, threshold 8, limit 3, retry 0, no singleton.
+const CONFIGURED: [u8; 65] = [
+    0, 0, 0, 0, 0, 0, 1, 2, 13, 0, 0, 0, 1, 0x66, 1, 0, 0, 0, 6, 0x6f, 0x72, 0x64, 0x65, 0x72,
+    0x73, 0, 0, 0, 0, 0, 0, 0, 16, 0, 0, 0, 0, 0, 0, 0, 8, 0, 0, 0, 0, 0, 0, 0, 3, 0, 0, 0, 0, 0,
+    0, 0, 0, 0, 0, 0, 0, 0, 0, 0, 0,
+];
+
+#[test]
+fn settings_are_written_and_read(rt: HostRuntime) -> Result<(), Fail> {
+    let moment = Moment::new(258).ok_or("258 is a moment")?;
+    let configure = Command::Configure {
+        function: Text::from_str(rt.alloc(), "f")?,
+        settings: FunctionSettings::Queue {
+            queue: Text::from_str(rt.alloc(), "orders")?,
+            batch: 16,
+            threshold: 8,
+            limit: 3,
+            retry: 0,
+            singleton: 0,
+        },
+    };
+    let mut bytes = Vec::new(rt.alloc());
+    encode(&configure, moment, &mut bytes)?;
+    assert_eq!(rt; bytes.as_slice(), CONFIGURED.as_slice());
+    assert_eq!(rt; entry_size(&configure), 65);
+    let (_, read) = decode(rt.alloc(), &CONFIGURED)?;
+    let Command::Configure {
+        settings: FunctionSettings::Queue { batch, limit, .. },
+        ..
+    } = read
+    else {
+        return Err("the bytes configure a function on a queue".into());
+    };
+    assert_eq!(rt; batch, 16);
+    assert_eq!(rt; limit, 3);
+    Ok(())
+}
+
 #[test]
 fn damaged_entries_have_their_first_fault(rt: HostRuntime) {
     let long = EventFault::LongField { field: 1 };
-    let cases: [(&[u8], EventFault); 15] = [
+    let cases: [(&[u8], EventFault); 20] = [
         (b"", EventFault::ShortField { field: 0 }),
         (b"\0\0\0\0\0\0\0", EventFault::ShortField { field: 0 }),
         (b"\0\0\0\0\0\0\0\0", EventFault::ShortField { field: 0 }),
@@ -92,6 +130,24 @@ fn damaged_entries_have_their_first_fault(rt: HostRuntime) {
             b"\0\0\0\0\0\0\0\0\x01\0\0\0\x01q\0\0",
             EventFault::Trailing { left: 2 },
         ),
+        // The settings of a function: their form is missing, is none of the two, or their fields are cut off.
+        (
+            b"\0\0\0\0\0\0\0\0\x0d\0\0\0\x01f",
+            EventFault::ShortField { field: 2 },
+        ),
+        (
+            b"\0\0\0\0\0\0\0\0\x0d\0\0\0\x01f\x03",
+            EventFault::BadField { field: 2 },
+        ),
+        (
+            b"\0\0\0\0\0\0\0\0\x0d\0\0\0\x01f\x01\0\0\0\x01\xff",
+            EventFault::BadField { field: 2 },
+        ),
+        (
+            b"\0\0\0\0\0\0\0\0\x0d\0\0\0\x01f\x02\0\0\0\0\0\0\0\x10\0\0",
+            EventFault::ShortField { field: 2 },
+        ),
+        (b"\0\0\0\0\0\0\0\0\x0e", EventFault::BadKind { kind: 14 }),
     ];
     for (bytes, expected) in cases {
         let fault = decode(rt.alloc(), bytes).err();
@@ -117,7 +173,10 @@ fn each_reply_has_its_line(rt: HostRuntime) -> Result<(), Fail> {
     let mut peeked = Vec::new(rt.alloc());
     peeked.push(item(&rt, 5, "")?)?;
     let queue = QueueName::read("orders").ok_or("a queue's name")?;
-    let cases: [(Reply, &str); 16] = [
+    let mut blobs = Vec::new(rt.alloc());
+    blobs.push(Text::from_str(rt.alloc(), "a b.txt")?)?;
+    blobs.push(Text::from_str(rt.alloc(), "c")?)?;
+    let cases: [(Reply, &str); 27] = [
         (Reply::Made, "ok"),
         (Reply::There, "quiet there"),
         (
@@ -137,6 +196,28 @@ fn each_reply_has_its_line(rt: HostRuntime) -> Result<(), Fail> {
         (Reply::Updated { receipt: 7 }, "ok 7"),
         (Reply::Deleted, "ok"),
         (Reply::Cleared { count: 3 }, "ok 3"),
+        (Reply::BlobStored { version: 4 }, "ok 4"),
+        (Reply::BlobDeleted, "ok"),
+        (Reply::Noted { number: 9 }, "ok 9"),
+        (Reply::NotedBefore, "quiet noted"),
+        (Reply::Acquired { until: 15000 }, "ok 15000"),
+        (Reply::Renewed { until: 30000 }, "ok 30000"),
+        (Reply::Released, "ok"),
+        (Reply::Configured { number: 2 }, "ok 2"),
+        (Reply::Same, "quiet same"),
+        (
+            Reply::Got {
+                version: 3,
+                text: Text::from_str(rt.alloc(), "a b")?,
+            },
+            "is 3 a%20b",
+        ),
+        (
+            Reply::Unnoted {
+                blobs: Texts::from_vec(blobs),
+            },
+            "is 2 a%20b.txt c",
+        ),
         (
             Reply::Peeked {
                 items: Items::new(peeked),

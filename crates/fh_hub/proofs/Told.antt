@@ -86,31 +86,31 @@ leases_apart (leases.Renewed until) = apart _ (λ n. refl) (λ k. refl) refl
 leases_apart leases.Released = apart _ (λ n. refl) (λ k. refl) refl
 leases_apart answer = apart _ (λ n. refl) (λ k. refl) refl
 
-blobs_apart : (others : Reply) (answer : BlobDone) → IsApart others → IsApart (reply_of_blobs others answer)
-blobs_apart others (blobs.Stored version) is = apart _ (λ n. refl) (λ k. refl) refl
-blobs_apart others blobs.Removed is = apart _ (λ n. refl) (λ k. refl) refl
-blobs_apart others answer is = is
+blobs_apart : (first : Reply) (answer : BlobDone) → IsApart first → IsApart (reply_of_blobs first answer)
+blobs_apart first (blobs.Stored version) is = apart _ (λ n. refl) (λ k. refl) refl
+blobs_apart first blobs.Removed is = apart _ (λ n. refl) (λ k. refl) refl
+blobs_apart first answer is = is
 
 others_apart : (answer : Done) → IsApart (reply_of_others answer)
 others_apart answer = blobs_apart (reply_of_leases answer.leases) answer.blobs (leases_apart answer.leases)
 
 -- a reply gives out and lists what the queues did
-bears_as_born : (n : ℕ) (others : Reply) (answer : QueueDone) → IsApart others → bears n (reply_of_queues others answer) ≡ born n answer
-bears_as_born n others (done.Stored number receipt) is = refl
-bears_as_born n others done.Swept is = is.births n
-bears_as_born n others answer is = refl
+bears_as_born : (n : ℕ) (first : Reply) (answer : QueueDone) → IsApart first → bears n (reply_of_queues first answer) ≡ born n answer
+bears_as_born n first (done.Stored number receipt) is = refl
+bears_as_born n first done.Swept is = is.births n
+bears_as_born n first answer is = refl
 
-gives_as_given : (k : ℕ) (others : Reply) (answer : QueueDone) → IsApart others → gives k (reply_of_queues others answer) ≡ given k answer
-gives_as_given k others (done.Stored number receipt) is = refl
-gives_as_given k others (done.Taken items) is = refl
-gives_as_given k others (done.Updated receipt) is = refl
-gives_as_given k others done.Swept is = is.receipts k
-gives_as_given k others answer is = refl
+gives_as_given : (k : ℕ) (first : Reply) (answer : QueueDone) → IsApart first → gives k (reply_of_queues first answer) ≡ given k answer
+gives_as_given k first (done.Stored number receipt) is = refl
+gives_as_given k first (done.Taken items) is = refl
+gives_as_given k first (done.Updated receipt) is = refl
+gives_as_given k first done.Swept is = is.receipts k
+gives_as_given k first answer is = refl
 
-items_as_listed : (others : Reply) (answer : QueueDone) → IsApart others → items_of (reply_of_queues others answer) ≡ items_in answer
-items_as_listed others (done.Taken items) is = refl
-items_as_listed others done.Swept is = is.items
-items_as_listed others answer is = refl
+items_as_listed : (first : Reply) (answer : QueueDone) → IsApart first → items_of (reply_of_queues first answer) ≡ items_in answer
+items_as_listed first (done.Taken items) is = refl
+items_as_listed first done.Swept is = is.items
+items_as_listed first answer is = refl
 
 -- a step's reply does
 pub reply_bears : (n : ℕ) (answer : Done) → bears n (reply_of answer) ≡ born n answer.queues
