@@ -1,12 +1,13 @@
 -- The grammar of a line: what it stands for, or its fault.
-use Rattle.std.specs.Prelude.{ℕ, ◌+◌, ◌==◌, if◌then◌else◌, List, [], ◌∷◌, length, slice_index_or, codes, Some, None, Result, Ok, Err}
+use Rattle.std.specs.Prelude.{ℕ, ◌+◌, ◌==◌, nat_lt, if◌then◌else◌, List, [], ◌∷◌, length, slice_index_or, codes, Some, None, Result, Ok, Err}
 use Rattle.std.specs.Str.{bytes_eq, is_utf8}
-use Rattle.fh_event.specs.declared.command.Command.TheVariants.{MakeQueue, Put, Take, Update, Delete, Clear, Peek, Locate}
+use Rattle.fh_event.specs.declared.command.Command.TheVariants.{MakeQueue, Put, Take, Update, Delete, Clear, PutBlob, DeleteBlob, Note, Acquire, RenewLease, ReleaseLease, Configure, Peek, GetBlob, Locate, Unnoted}
+use Rattle.fh_event.specs.declared.settings.FunctionSettings.TheVariants.{Queue, Blob}
 use Rattle.fh_script.specs.declared.faults.WordFault.{WordFault}
 use Rattle.fh_script.specs.declared.faults.WordFault.TheVariants.{BadText, BadWord, BadCount}
 use Rattle.fh_script.specs.declared.grammar.LineAsk.{LineAsk}
 use Rattle.fh_script.specs.declared.grammar.LineAsk.TheVariants.{Blank, At, Ask}
-use Rattle.fh_script.specs.Forms.{◌>>=◌, Form, number, number_or, lifetime, text, Meaning, meaning_of}
+use Rattle.fh_script.specs.Forms.{◌>>=◌, Form, number, number_or, lifetime, text, as_it_is, Meaning, meaning_of}
 use Rattle.fh_script.specs.Lines.{line_text}
 use Rattle.fh_script.specs.Words.{words}
 
@@ -62,6 +63,55 @@ clear_line = read (text ∷ []) (λ queue. Ask (Clear queue))
 unfoldable pub where_line : List (List ℕ) → Result LineAsk WordFault
 where_line = read (number ∷ []) (λ n. Ask (Locate n))
 
+unfoldable pub blob_line : List (List ℕ) → Result LineAsk WordFault
+blob_line = read (text ∷ text ∷ text ∷ []) (λ container blob text. Ask (PutBlob container blob text))
+
+unfoldable pub unblob_line : List (List ℕ) → Result LineAsk WordFault
+unblob_line = read (text ∷ text ∷ []) (λ container blob. Ask (DeleteBlob container blob))
+
+unfoldable pub get_line : List (List ℕ) → Result LineAsk WordFault
+get_line = read (text ∷ text ∷ []) (λ container blob. Ask (GetBlob container blob))
+
+unfoldable pub note_line : List (List ℕ) → Result LineAsk WordFault
+note_line = read (text ∷ text ∷ text ∷ []) (λ function container blob. Ask (Note function container blob))
+
+unfoldable pub unnoted_line : List (List ℕ) → Result LineAsk WordFault
+unnoted_line = read (text ∷ text ∷ []) (λ function container. Ask (Unnoted function container))
+
+unfoldable pub acquire_line : List (List ℕ) → Result LineAsk WordFault
+acquire_line = read (text ∷ number ∷ number ∷ []) (λ lease holder seconds. Ask (Acquire lease holder seconds))
+
+unfoldable pub renew_line : List (List ℕ) → Result LineAsk WordFault
+renew_line = read (text ∷ number ∷ []) (λ lease holder. Ask (RenewLease lease holder))
+
+unfoldable pub release_line : List (List ℕ) → Result LineAsk WordFault
+release_line = read (text ∷ number ∷ []) (λ lease holder. Ask (ReleaseLease lease holder))
+
+-- the settings of a function on a queue, behind its name and the word `queue`
+unfoldable pub queue_function_line : List (List ℕ) → Result LineAsk WordFault
+queue_function_line =
+    read (text ∷ as_it_is ∷ text ∷ number ∷ number ∷ number ∷ number ∷ number ∷ [])
+    (λ function form queue batch threshold limit retry singleton.
+    Ask (Configure function (Queue queue batch threshold limit retry singleton)))
+
+-- those of a function on blobs, behind its name and the word `blob`
+unfoldable pub blob_function_line : List (List ℕ) → Result LineAsk WordFault
+blob_function_line =
+    read (text ∷ as_it_is ∷ number ∷ number ∷ number ∷ number ∷ number ∷ [])
+    (λ function form batch threshold limit retry singleton.
+    Ask (Configure function (Blob batch threshold limit retry singleton)))
+
+-- the word behind the function says of which form its settings are
+unfoldable pub function_line : List ℕ → List (List ℕ) → Result LineAsk WordFault
+function_line form words =
+    if bytes_eq form (codes "queue") then queue_function_line words
+    else if bytes_eq form (codes "blob") then blob_function_line words
+    else Err BadWord
+
+unfoldable pub configure_line : List (List ℕ) → Result LineAsk WordFault
+configure_line words =
+    if nat_lt (length words) 2 then Err BadCount else function_line (slice_index_or words 1 []) words
+
 unfoldable pub line_of_words : List (List ℕ) → Result LineAsk WordFault
 line_of_words [] = Ok Blank
 line_of_words (verb ∷ words) =
@@ -74,6 +124,15 @@ line_of_words (verb ∷ words) =
     else if bytes_eq verb (codes "delete") then delete_line words
     else if bytes_eq verb (codes "clear") then clear_line words
     else if bytes_eq verb (codes "where") then where_line words
+    else if bytes_eq verb (codes "blob") then blob_line words
+    else if bytes_eq verb (codes "unblob") then unblob_line words
+    else if bytes_eq verb (codes "get") then get_line words
+    else if bytes_eq verb (codes "note") then note_line words
+    else if bytes_eq verb (codes "unnoted") then unnoted_line words
+    else if bytes_eq verb (codes "acquire") then acquire_line words
+    else if bytes_eq verb (codes "renew") then renew_line words
+    else if bytes_eq verb (codes "release") then release_line words
+    else if bytes_eq verb (codes "configure") then configure_line words
     else Err BadWord
 
 -- what the bytes of a line stand for, with or without the line feed

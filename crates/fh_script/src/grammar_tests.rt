@@ -1,5 +1,6 @@
 use super::*;
-use fh_event::Command;
+use fh_event::{Command, FunctionSettings};
+use std::alloc::Global;
 use std::test::Fail;
 
 // A line as a test writes it: the variant's name and its fields in order, or the fault.
@@ -49,6 +50,75 @@ fn shown(rt: &HostRuntime, line: &[u8]) -> Result<String, Fail> {
             format!(in alloc; "Peek [{}] {count}", queue.as_str())?
         }
         Command::Locate { number } => format!(in alloc; "Locate {number}")?,
+        Command::PutBlob {
+            container,
+            blob,
+            text,
+        } => format!(in alloc;
+            "PutBlob [{}] [{}] [{}]",
+            container.as_str(),
+            blob.as_str(),
+            text.as_str()
+        )?,
+        Command::DeleteBlob { container, blob } => {
+            format!(in alloc; "DeleteBlob [{}] [{}]", container.as_str(), blob.as_str())?
+        }
+        Command::GetBlob { container, blob } => {
+            format!(in alloc; "GetBlob [{}] [{}]", container.as_str(), blob.as_str())?
+        }
+        Command::Note {
+            function,
+            container,
+            blob,
+        } => format!(in alloc;
+            "Note [{}] [{}] [{}]",
+            function.as_str(),
+            container.as_str(),
+            blob.as_str()
+        )?,
+        Command::Unnoted {
+            function,
+            container,
+        } => format!(in alloc; "Unnoted [{}] [{}]", function.as_str(), container.as_str())?,
+        Command::Acquire {
+            lease,
+            holder,
+            seconds,
+        } => format!(in alloc; "Acquire [{}] {holder} {seconds}", lease.as_str())?,
+        Command::RenewLease { lease, holder } => {
+            format!(in alloc; "RenewLease [{}] {holder}", lease.as_str())?
+        }
+        Command::ReleaseLease { lease, holder } => {
+            format!(in alloc; "ReleaseLease [{}] {holder}", lease.as_str())?
+        }
+        Command::Configure { function, settings } => {
+            let settings = settings_shown(alloc, &settings)?;
+            format!(in alloc; "Configure [{}] {}", function.as_str(), settings.as_str())?
+        }
+    };
+    Ok(shown)
+}
+
+fn settings_shown(alloc: Global, settings: &FunctionSettings) -> Result<String, Fail> {
+    let shown = match settings {
+        FunctionSettings::Queue {
+            queue,
+            batch,
+            threshold,
+            limit,
+            retry,
+            singleton,
+        } => format!(in alloc;
+            "Queue [{}] {batch} {threshold} {limit} {retry} {singleton}",
+            queue.as_str()
+        )?,
+        FunctionSettings::Blob {
+            batch,
+            threshold,
+            limit,
+            retry,
+            singleton,
+        } => format!(in alloc; "Blob {batch} {threshold} {limit} {retry} {singleton}")?,
     };
     Ok(shown)
 }
@@ -66,7 +136,7 @@ fn expect(rt: &HostRuntime, cases: &[(&[u8], &str)]) -> Result<(), Fail> {
 
 #[test]
 fn each_verb_has_its_command(rt: HostRuntime) -> Result<(), Fail> {
-    let cases: [(&[u8], &str); 11] = [
+    let cases: [(&[u8], &str); 21] = [
         (b"at 0", "at 0"),
         (b"at 253402300799999", "at 253402300799999"),
         (b"queue orders", "MakeQueue [orders]"),
@@ -81,6 +151,22 @@ fn each_verb_has_its_command(rt: HostRuntime) -> Result<(), Fail> {
         (b"delete orders 1 2", "Delete [orders] 1 2"),
         (b"clear orders", "Clear [orders]"),
         (b"where 7", "Locate 7"),
+        (b"blob inbox a.txt hi", "PutBlob [inbox] [a.txt] [hi]"),
+        (b"unblob inbox a%20b", "DeleteBlob [inbox] [a b]"),
+        (b"get inbox a.txt", "GetBlob [inbox] [a.txt]"),
+        (b"note f inbox a.txt", "Note [f] [inbox] [a.txt]"),
+        (b"unnoted f inbox", "Unnoted [f] [inbox]"),
+        (b"acquire l 7 15", "Acquire [l] 7 15"),
+        (b"renew l 7", "RenewLease [l] 7"),
+        (b"release l 7", "ReleaseLease [l] 7"),
+        (
+            b"configure f queue orders 16 8 3 0 60",
+            "Configure [f] Queue [orders] 16 8 3 0 60",
+        ),
+        (
+            b"configure f blob 16 8 3 0 0",
+            "Configure [f] Blob 16 8 3 0 0",
+        ),
     ];
     expect(&rt, &cases)
 }
@@ -141,7 +227,7 @@ fn a_text_is_decoded(rt: HostRuntime) -> Result<(), Fail> {
 
 #[test]
 fn the_first_fault_decides(rt: HostRuntime) -> Result<(), Fail> {
-    let cases: [(&[u8], &str); 17] = [
+    let cases: [(&[u8], &str); 26] = [
         (b"frob", "BadWord"),
         (b"Queue orders", "BadWord"),
         (b"%71ueue orders", "BadWord"),
@@ -159,6 +245,15 @@ fn the_first_fault_decides(rt: HostRuntime) -> Result<(), Fail> {
         (b"put orders x - %ff", "BadNumber"),
         (b"put orders x -1 a", "BadNumber"),
         (b"put orders 0 -1 %ff", "BadText"),
+        (b"blob inbox a.txt", "BadCount"),
+        (b"acquire l 7 -", "BadNumber"),
+        (b"configure", "BadCount"),
+        (b"configure f", "BadCount"),
+        (b"configure f frob", "BadWord"),
+        (b"configure f timer 0 0 0 0", "BadWord"),
+        (b"configure f queue orders 16 8 3 0", "BadCount"),
+        (b"configure f blob 16 8 3 0 0 0", "BadCount"),
+        (b"configure %ff queue orders x 8 3 0 0", "BadText"),
     ];
     expect(&rt, &cases)
 }
