@@ -44,7 +44,6 @@ pub data Form : Type 0 where
   number_or : ℕ → Form
   lifetime : Form
   text : Form
-  as_it_is : Form
 
 -- what a word of this form stands for
 abbrev pub Meaning : Form → Type 0
@@ -52,11 +51,9 @@ Meaning number = ℕ
 Meaning (number_or default) = ℕ
 Meaning lifetime = Option ℕ
 Meaning text = List ℕ
-Meaning as_it_is = List ℕ
 
 abbrev pub meaning_of : (form : Form) → List ℕ → Result (Meaning form) WordFault
 meaning_of number word = number_of word
 meaning_of (number_or default) word = number_or_default default word
 meaning_of lifetime word = lifetime_of word
 meaning_of text word = text_of word
-meaning_of as_it_is word = Ok word

@@ -1,6 +1,5 @@
 use super::*;
-use fh_event::{Command, FunctionSettings};
-use std::alloc::Global;
+use fh_event::Command;
 use std::test::Fail;
 
 // A line as a test writes it: the variant's name and its fields in order, or the fault.
@@ -91,34 +90,8 @@ fn shown(rt: &HostRuntime, line: &[u8]) -> Result<String, Fail> {
         Command::ReleaseLease { lease, holder } => {
             format!(in alloc; "ReleaseLease [{}] {holder}", lease.as_str())?
         }
-        Command::Configure { function, settings } => {
-            let settings = settings_shown(alloc, &settings)?;
-            format!(in alloc; "Configure [{}] {}", function.as_str(), settings.as_str())?
-        }
-    };
-    Ok(shown)
-}
-
-fn settings_shown(alloc: Global, settings: &FunctionSettings) -> Result<String, Fail> {
-    let shown = match settings {
-        FunctionSettings::Queue {
-            queue,
-            batch,
-            threshold,
-            limit,
-            retry,
-            singleton,
-        } => format!(in alloc;
-            "Queue [{}] {batch} {threshold} {limit} {retry} {singleton}",
-            queue.as_str()
-        )?,
-        FunctionSettings::Blob {
-            batch,
-            threshold,
-            limit,
-            retry,
-            singleton,
-        } => format!(in alloc; "Blob {batch} {threshold} {limit} {retry} {singleton}")?,
+        // No line configures a function yet.
+        Command::Configure { .. } => String::from_str(alloc, "Configure")?,
     };
     Ok(shown)
 }
@@ -136,7 +109,7 @@ fn expect(rt: &HostRuntime, cases: &[(&[u8], &str)]) -> Result<(), Fail> {
 
 #[test]
 fn each_verb_has_its_command(rt: HostRuntime) -> Result<(), Fail> {
-    let cases: [(&[u8], &str); 21] = [
+    let cases: [(&[u8], &str); 19] = [
         (b"at 0", "at 0"),
         (b"at 253402300799999", "at 253402300799999"),
         (b"queue orders", "MakeQueue [orders]"),
@@ -159,14 +132,6 @@ fn each_verb_has_its_command(rt: HostRuntime) -> Result<(), Fail> {
         (b"acquire l 7 15", "Acquire [l] 7 15"),
         (b"renew l 7", "RenewLease [l] 7"),
         (b"release l 7", "ReleaseLease [l] 7"),
-        (
-            b"configure f queue orders 16 8 3 0 60",
-            "Configure [f] Queue [orders] 16 8 3 0 60",
-        ),
-        (
-            b"configure f blob 16 8 3 0 0",
-            "Configure [f] Blob 16 8 3 0 0",
-        ),
     ];
     expect(&rt, &cases)
 }
@@ -227,7 +192,7 @@ fn a_text_is_decoded(rt: HostRuntime) -> Result<(), Fail> {
 
 #[test]
 fn the_first_fault_decides(rt: HostRuntime) -> Result<(), Fail> {
-    let cases: [(&[u8], &str); 26] = [
+    let cases: [(&[u8], &str); 20] = [
         (b"frob", "BadWord"),
         (b"Queue orders", "BadWord"),
         (b"%71ueue orders", "BadWord"),
@@ -247,13 +212,7 @@ fn the_first_fault_decides(rt: HostRuntime) -> Result<(), Fail> {
         (b"put orders 0 -1 %ff", "BadText"),
         (b"blob inbox a.txt", "BadCount"),
         (b"acquire l 7 -", "BadNumber"),
-        (b"configure", "BadCount"),
-        (b"configure f", "BadCount"),
-        (b"configure f frob", "BadWord"),
-        (b"configure f timer 0 0 0 0", "BadWord"),
-        (b"configure f queue orders 16 8 3 0", "BadCount"),
-        (b"configure f blob 16 8 3 0 0 0", "BadCount"),
-        (b"configure %ff queue orders x 8 3 0 0", "BadText"),
+        (b"configure f queue orders 16 8 3 0 0", "BadWord"),
     ];
     expect(&rt, &cases)
 }
