@@ -13,3 +13,4 @@ pub mod Guarding
 pub mod Rising
 pub mod Turns
 pub mod Bounds
+pub mod Leasing

@@ -16,3 +16,4 @@ pub mod Signs
 pub mod Laws
 pub mod Places
 pub mod Guards
+pub mod Holders

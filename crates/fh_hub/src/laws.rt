@@ -10,6 +10,7 @@ ghost use Rattle.fh_hub.specs.Laws.{births, receipts, IsGivenInTurn};
 ghost use Rattle.fh_queues.specs.Whole.{IsWhole};
 ghost use Rattle.fh_hub.specs.Places.{IsInOnePlace, IsLocated};
 ghost use Rattle.fh_hub.specs.Guards.{GuardsMessages, RisesOver, HasOwnMoment};
+ghost use Rattle.fh_hub.specs.Holders.{IsHeldByOne};
 
 /// A file stands for one legal history at most, or is broken first at one place by one rule; where it has
 /// more than 7 bytes, not both.
@@ -69,4 +70,10 @@ pub fn receipts_only_rise()
 /// Events of a legal history act at the moments of their entries.
 pub fn legal_events_have_their_moments()
     ensures { (history : List Entry) → IsLegal history → All HasOwnMoment (trace history) }
+{}
+
+/// At each moment from the last one on, a lease has at most one holder: the one to whom it was granted last
+/// until a later moment, and from whom nothing took it since. That one and that end the world tells.
+pub fn leases_have_one_holder()
+    ensures { (history : List Entry) (x : List ℕ) (t : ℕ) → (replay history).last ≤ t → IsHeldByOne history x t }
 {}
