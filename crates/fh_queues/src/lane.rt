@@ -1,9 +1,10 @@
 // A queue's lane: the numbers of all messages that were ever put in it, and a key for each.
-ghost use Rattle.std.specs.Prelude.{◌≡◌, ℕ, ◌+◌, ◌<◌, ◌≤◌, ◌^◌, [], ◌∷◌, ◌++◌, length, slice_index, slice_set, true, false, OnOk};
+ghost use Rattle.std.specs.Prelude.{◌≡◌, ℕ, ◌+◌, ◌<◌, ◌≤◌, ◌^◌, [], ◌∷◌, ◌++◌, length, slice_index, slice_set, true, false, IfOk, OnOk};
 ghost use Rattle.fh_minima.specs.Tower.{IsFirst};
 ghost use Rattle.fh_queues.specs.Lanes.{KeepsKeys, GrowsLane, IsReady};
 
-use fh_base::{NoMemory, QueueName};
+use crate::SharedName;
+use fh_base::NoMemory;
 use fh_minima::Minima;
 use std::alloc::Global;
 use std::marker::Model;
@@ -13,7 +14,7 @@ pub(crate) const NEVER: u64 = u64::MAX;
 
 #[derive(Drop)]
 pub(crate) struct Lane {
-    name: QueueName,
+    name: SharedName,
     // Whether it is a queue, and not a lane that was only staged.
     made: bool,
     numbers: Vec<u64>,
@@ -38,7 +39,7 @@ impl Model for Lane {
 
 impl Lane {
     /// A lane that is no queue yet. Takes no memory.
-    pub(crate) fn new(alloc: Global, name: QueueName) -> Lane
+    pub(crate) fn new(alloc: Global, name: SharedName) -> Lane
         ensures name { result.name ≡ name }
         ensures made { result.made ≡ false }
         ensures numbers { result.numbers ≡ [] }
@@ -56,6 +57,13 @@ impl Lane {
         ensures { result.now ≡ self.now.name }
     {
         self.name.as_bytes()
+    }
+
+    /// Its name once more, for a message.
+    pub(crate) fn share_name(&self) -> Result<SharedName, NoMemory>
+        ensures { IfOk result (λ name. name ≡ self.now.name) }
+    {
+        self.name.share()
     }
 
     pub(crate) fn is_made(&self) -> bool

@@ -26,6 +26,7 @@ mod reading;
 mod row;
 mod rows;
 mod rules;
+mod shared_name;
 mod slot;
 mod staging;
 
@@ -39,7 +40,8 @@ pub use laws::{
     takes_list_visible_messages, texts_are_short,
 };
 pub use queues::Queues;
-pub use row::{About, Message};
+pub use row::{About, BoxedAbout, Message};
+pub use shared_name::SharedName;
 
 #[cfg(test)]
 mod tests;

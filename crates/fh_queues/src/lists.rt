@@ -168,7 +168,7 @@ fn reserve_lane(lanes: &mut Lanes, act: &Act, more: usize) -> Result<(), NoMemor
 {
     match act {
         Act::AddQueue { queue } => lanes.reserve(queue, more),
-        Act::AddRow { new } => lanes.reserve(&new.queue, more),
+        Act::AddRow { new } => lanes.reserve(new.queue.name(), more),
         Act::ChangeRow { .. } | Act::EndRows { .. } => Ok(()),
     }
 }

@@ -9,7 +9,7 @@ ghost use Rattle.fh_queues.specs.Faults.{IsPlanOf};
 
 use crate::act::{Act, NewMessage, RowChange, Which};
 use crate::choosing::taken_items;
-use crate::{About, Ending, Message, QueueAsk, QueueChange, QueueDone, Queues};
+use crate::{About, BoxedAbout, Ending, Message, QueueAsk, QueueChange, QueueDone, Queues};
 use fh_base::{Moment, NoMemory, QueueName, Rule, Text};
 use fh_event::{Item, PlanFault};
 use std::alloc::Global;
@@ -113,7 +113,7 @@ impl Queues {
             return Err(PlanFault::Rule(rule));
         }
         let new = NewMessage {
-            queue: *queue,
+            queue: self.lists.lanes.share_name(queue)?,
             text: text.copy(alloc)?,
             put_at: m.ms(),
             visible_at: m.ms() + delay * MILLISECONDS,
@@ -304,12 +304,12 @@ fn expiry_after(m: Moment, ttl: Option<u64>) -> Option<u64>
     }
 }
 
-fn copy_of(alloc: Global, about: Option<&About>) -> Result<Option<About>, NoMemory>
+fn copy_of(alloc: Global, about: Option<&About>) -> Result<Option<BoxedAbout>, NoMemory>
     ensures { IfOk result (λ own. own ≡ option_map (λ a. a.now) about.entry) }
 {
     match about {
         None => Ok(None),
-        Some(about) => Ok(Some(about.copy(alloc)?)),
+        Some(about) => Ok(Some(BoxedAbout::new(alloc, about.copy(alloc)?)?)),
     }
 }
 

@@ -2,8 +2,10 @@
 ghost use Rattle.std.specs.Prelude.{◌≡◌, IfOk};
 ghost use Rattle.fh_queues.specs.Rows.{is_live, is_visible, is_of};
 
+use crate::SharedName;
 use fh_base::{Moment, NoMemory, QueueName, Text};
 use std::alloc::Global;
+use std::marker::Model;
 
 /// The blob that a message is about, as it was at that version.
 #[derive(Drop)]
@@ -27,11 +29,41 @@ impl About {
     }
 }
 
+/// The blob that a message is about, apart from the row, since few rows have one.
+#[derive(Drop)]
+pub struct BoxedAbout {
+    about: Box<About>,
+}
+
+impl Model for BoxedAbout {
+    ghost use Rattle.std.specs.Box.{box_value};
+    ghost use Rattle.fh_queues.specs.declared.row.About.{About};
+
+    ghost Value = { About };
+
+    ghost view = { λ b. box_value b.about };
+}
+
+impl BoxedAbout {
+    pub(crate) fn new(alloc: Global, about: About) -> Result<BoxedAbout, NoMemory>
+        ensures { IfOk result (λ boxed. boxed ≡ about) }
+    {
+        let about = Box::new(alloc, about)?;
+        Ok(BoxedAbout { about })
+    }
+
+    pub fn as_about(&self) -> &About
+        ensures { result.now ≡ self.now }
+    {
+        self.about.as_ref()
+    }
+}
+
 /// A message that was put and isn't gone. Times are moments in milliseconds.
 #[derive(Drop)]
 pub struct Message {
     pub number: u64,
-    pub queue: QueueName,
+    pub queue: SharedName,
     pub text: Text,
     pub put_at: u64,
     /// A hold to this moment is free at it.
@@ -44,7 +76,7 @@ pub struct Message {
     pub receipt: u64,
     /// Whether the last change of its visibility was a hold.
     pub held: bool,
-    pub about: Option<About>,
+    pub about: Option<BoxedAbout>,
 }
 
 impl Message {

@@ -369,6 +369,7 @@ fn a_row_keeps_its_blob_while_it_is_live(rt: HostRuntime) -> Result<(), Fail> {
     let Some(kept) = kept else {
         return Err("the message is about a blob".into());
     };
+    let kept = kept.as_about();
     assert_eq!(rt; kept.blob.as_str(), "a.txt");
     assert_eq!(rt; kept.version, 2);
     assert_eq!(rt; queues.live(moment(999)?), 1);
