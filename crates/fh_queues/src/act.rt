@@ -2,7 +2,7 @@
 ghost use Rattle.std.specs.Prelude.{◌≡◌};
 ghost use Rattle.fh_queues.specs.Acts.{is_one};
 
-use crate::{BoxedAbout, Ending, Message, SharedName};
+use crate::{BoxedAbout, Ending, Expiry, Message, SharedName};
 use fh_base::{Moment, QueueName, Text};
 
 /// A message that is put. Its number and its receipt are the next ones.
@@ -12,7 +12,7 @@ pub(crate) struct NewMessage {
     pub(crate) text: Text,
     pub(crate) put_at: u64,
     pub(crate) visible_at: u64,
-    pub(crate) expiry: Option<u64>,
+    pub(crate) expiry: Expiry,
     pub(crate) about: Option<BoxedAbout>,
 }
 

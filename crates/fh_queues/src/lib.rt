@@ -16,6 +16,7 @@ mod change;
 mod choosing;
 mod done;
 mod ending;
+mod expiry;
 mod lane;
 mod lanes;
 mod laws;
@@ -33,6 +34,7 @@ mod staging;
 pub use ask::QueueAsk;
 pub use change::{QueueChange, StagedQueues};
 pub use done::{Ending, QueueDone};
+pub use expiry::Expiry;
 pub use laws::{
     counters_move_little, messages_are_as_told, messages_go_on_as_answered,
     numbers_are_given_in_turn, parts_stay_whole, peeks_list_in_order_of_number, places_are_known,

@@ -113,7 +113,7 @@ impl Lists {
         let place = self
             .lanes
             .add(&row.queue, row.number, key_of(row.visible_at));
-        self.expiries.set(self.slots.len(), expiry_key(row.expiry));
+        self.expiries.set(self.slots.len(), expiry_key(&row.expiry));
         let _added = self.slots.push(Slot::Row { row, place });
         self.count += 1;
         self.next_receipt += 1;

@@ -9,7 +9,7 @@ ghost use Rattle.fh_queues.specs.Faults.{IsPlanOf};
 
 use crate::act::{Act, NewMessage, RowChange, Which};
 use crate::choosing::taken_items;
-use crate::{About, BoxedAbout, Ending, Message, QueueAsk, QueueChange, QueueDone, Queues};
+use crate::{About, BoxedAbout, Ending, Expiry, Message, QueueAsk, QueueChange, QueueDone, Queues};
 use fh_base::{Moment, NoMemory, QueueName, Rule, Text};
 use fh_event::{Item, PlanFault};
 use std::alloc::Global;
@@ -294,13 +294,13 @@ fn holds(alloc: Global, m: Moment, items: &[Item], until: u64) -> Result<Vec<Act
     Ok(acts)
 }
 
-fn expiry_after(m: Moment, ttl: Option<u64>) -> Option<u64>
+fn expiry_after(m: Moment, ttl: Option<u64>) -> Expiry
     requires { IfSome ttl (λ seconds. seconds ≤ 2147483647) }
     ensures { result ≡ expiry_after m ttl }
 {
     match ttl {
-        None => None,
-        Some(ttl) => Some(m.ms() + ttl * MILLISECONDS),
+        None => Expiry::never(),
+        Some(ttl) => Expiry::at(m.ms() + ttl * MILLISECONDS),
     }
 }
 

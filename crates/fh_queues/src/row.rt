@@ -2,7 +2,7 @@
 ghost use Rattle.std.specs.Prelude.{◌≡◌, IfOk};
 ghost use Rattle.fh_queues.specs.Rows.{is_live, is_visible, is_of};
 
-use crate::SharedName;
+use crate::{Expiry, SharedName};
 use fh_base::{Moment, NoMemory, QueueName, Text};
 use std::alloc::Global;
 use std::marker::Model;
@@ -69,7 +69,7 @@ pub struct Message {
     /// A hold to this moment is free at it.
     pub visible_at: u64,
     /// Live before this moment; `None` is for good.
-    pub expiry: Option<u64>,
+    pub expiry: Expiry,
     /// How often it was taken: the dequeue count.
     pub count: u64,
     /// The newest pop receipt, the one that is good.
@@ -83,7 +83,7 @@ impl Message {
     pub fn is_live(&self, m: Moment) -> bool
         ensures { result ≡ is_live m self.now }
     {
-        match self.expiry {
+        match self.expiry.get() {
             None => true,
             Some(end) => m.ms() < end,
         }
