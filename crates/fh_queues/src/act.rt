@@ -2,7 +2,7 @@
 ghost use Rattle.std.specs.Prelude.{◌≡◌};
 ghost use Rattle.fh_queues.specs.Acts.{is_one};
 
-use crate::{BoxedAbout, Ending, Expiry, Message, SharedName};
+use crate::{Ending, Expiry, Message, SharedName, Subject};
 use fh_base::{Moment, QueueName, Text};
 
 /// A message that is put. Its number and its receipt are the next ones.
@@ -13,7 +13,7 @@ pub(crate) struct NewMessage {
     pub(crate) put_at: u64,
     pub(crate) visible_at: u64,
     pub(crate) expiry: Expiry,
-    pub(crate) about: Option<BoxedAbout>,
+    pub(crate) about: Subject,
 }
 
 /// What changes in a row beside its receipt, which is the next one.

@@ -1,9 +1,9 @@
 // A queue's lane: the numbers of all messages that were ever put in it, and a key for each.
-ghost use Rattle.std.specs.Prelude.{◌≡◌, ℕ, ◌+◌, ◌<◌, ◌≤◌, ◌^◌, [], ◌∷◌, ◌++◌, length, slice_index, slice_set, true, false, IfOk, OnOk};
+ghost use Rattle.std.specs.Prelude.{◌≡◌, ℕ, ◌+◌, ◌<◌, ◌≤◌, ◌^◌, [], ◌∷◌, ◌++◌, length, slice_index, slice_set, true, false, None, IfOk, OnOk};
 ghost use Rattle.fh_minima.specs.Tower.{IsFirst};
 ghost use Rattle.fh_queues.specs.Lanes.{KeepsKeys, GrowsLane, IsReady};
 
-use crate::SharedName;
+use crate::{SharedName, Subject};
 use fh_base::NoMemory;
 use fh_minima::Minima;
 use std::alloc::Global;
@@ -15,6 +15,8 @@ pub(crate) const NEVER: u64 = u64::MAX;
 #[derive(Drop)]
 pub(crate) struct Lane {
     name: SharedName,
+    // What a message of it is about that is about no blob.
+    nothing: Subject,
     // Whether it is a queue, and not a lane that was only staged.
     made: bool,
     numbers: Vec<u64>,
@@ -23,7 +25,7 @@ pub(crate) struct Lane {
 }
 
 impl Model for Lane {
-    ghost use Rattle.std.specs.Prelude.{◌-◌, vec_len, vec_capacity};
+    ghost use Rattle.std.specs.Prelude.{◌≡◌, ◌-◌, None, vec_len, vec_capacity};
     ghost use Rattle.fh_queues.specs.Lanes.{LaneValue};
 
     ghost Value = { LaneValue };
@@ -35,11 +37,14 @@ impl Model for Lane {
       keys = lane.keys;
       room = vec_capacity lane.numbers - vec_len lane.numbers;
     } };
+
+    ghost invariant = { λ lane. lane.nothing ≡ None };
 }
 
 impl Lane {
     /// A lane that is no queue yet. Takes no memory.
-    pub(crate) fn new(alloc: Global, name: SharedName) -> Lane
+    pub(crate) fn new(alloc: Global, name: SharedName, nothing: Subject) -> Lane
+        requires { nothing ≡ None }
         ensures name { result.name ≡ name }
         ensures made { result.made ≡ false }
         ensures numbers { result.numbers ≡ [] }
@@ -47,6 +52,7 @@ impl Lane {
     {
         Lane {
             name,
+            nothing,
             made: false,
             numbers: Vec::new(alloc),
             keys: Minima::new(alloc),
@@ -59,11 +65,11 @@ impl Lane {
         self.name.as_bytes()
     }
 
-    /// Its name once more, for a message.
-    pub(crate) fn share_name(&self) -> Result<SharedName, NoMemory>
-        ensures { IfOk result (λ name. name ≡ self.now.name) }
+    /// Its name once more, for a message, and that it is about no blob.
+    pub(crate) fn share(&self) -> Result<(SharedName, Subject), NoMemory>
+        ensures { IfOk result (λ shared. (shared.0 ≡ self.now.name) × (shared.1 ≡ None)) }
     {
-        self.name.share()
+        Ok((self.name.share()?, self.nothing.share()?))
     }
 
     pub(crate) fn is_made(&self) -> bool

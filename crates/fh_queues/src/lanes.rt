@@ -1,12 +1,12 @@
 // The lanes of all queues, in order of bytes of their names.
-ghost use Rattle.std.specs.Prelude.{◌≡◌, ◌+◌, ◌<◌, ◌≤◌, ◌^◌, List, ℕ, [], ◌∷◌, ◌++◌, length, map, slice_set, true, false, IfOk, IfSome, OnOk};
+ghost use Rattle.std.specs.Prelude.{◌≡◌, ◌+◌, ◌<◌, ◌≤◌, ◌^◌, List, ℕ, [], ◌∷◌, ◌++◌, length, map, slice_set, true, false, None, IfOk, IfSome, OnOk};
 ghost use Rattle.std.specs.Str.{bytes_eq};
 ghost use Rattle.fh_queues.specs.Order.{are_in_order, with_name};
 ghost use Rattle.fh_queues.specs.Part.{has_queue};
 ghost use Rattle.fh_queues.specs.Lanes.{name_of, lane_of, queues_of, IsSought, IsNextIn, Grows, IsReady, SameKeys};
 
-use crate::SharedName;
 use crate::lane::Lane;
+use crate::{SharedName, Subject};
 use fh_base::{NoMemory, QueueName};
 use std::alloc::Global;
 use std::cmp::Ordering;
@@ -57,13 +57,16 @@ impl Lanes {
         }
     }
 
-    /// The queue's name, as its lane shares it with its messages.
-    pub(crate) fn share_name(&self, queue: &QueueName) -> Result<SharedName, NoMemory>
-        ensures { IfOk result (λ name. name ≡ queue.now) }
+    /// The queue's name, as its lane shares it with its messages, and that one is about no blob.
+    pub(crate) fn share(&self, queue: &QueueName) -> Result<(SharedName, Subject), NoMemory>
+        ensures { IfOk result (λ shared. (shared.0 ≡ queue.now) × (shared.1 ≡ None)) }
     {
         match self.find(queue) {
-            Ok(at) => self.lanes[at].share_name(),
-            Err(_) => SharedName::new(self.alloc, *queue),
+            Ok(at) => self.lanes[at].share(),
+            Err(_) => {
+                let name = SharedName::new(self.alloc, *queue)?;
+                Ok((name, Subject::new(self.alloc, None)?))
+            }
         }
     }
 
@@ -101,7 +104,8 @@ impl Lanes {
             Ok(at) => self.lanes[at].reserve(more),
             Err(at) => {
                 let name = SharedName::new(self.alloc, *queue)?;
-                let mut lane = Lane::new(self.alloc, name);
+                let nothing = Subject::new(self.alloc, None)?;
+                let mut lane = Lane::new(self.alloc, name, nothing);
                 lane.reserve(more)?;
                 self.lanes.insert(at, lane)?;
                 Ok(())

@@ -42,7 +42,7 @@ pub use laws::{
     takes_list_visible_messages, texts_are_short,
 };
 pub use queues::Queues;
-pub use row::{About, BoxedAbout, Message};
+pub use row::{About, Message, Subject};
 pub use shared_name::SharedName;
 
 #[cfg(test)]

@@ -1,11 +1,12 @@
 // The row of a message.
-ghost use Rattle.std.specs.Prelude.{◌≡◌, IfOk};
+ghost use Rattle.std.specs.Prelude.{◌≡◌, option_copied, IfOk};
 ghost use Rattle.fh_queues.specs.Rows.{is_live, is_visible, is_of};
 
 use crate::{Expiry, SharedName};
 use fh_base::{Moment, NoMemory, QueueName, Text};
 use std::alloc::Global;
 use std::marker::Model;
+use std::sync::Arc;
 
 /// The blob that a message is about, as it was at that version.
 #[derive(Drop)]
@@ -29,33 +30,45 @@ impl About {
     }
 }
 
-/// The blob that a message is about, apart from the row, since few rows have one.
+/// The blob that a message is about, or none, which messages share. Contracts see the option.
 #[derive(Drop)]
-pub struct BoxedAbout {
-    about: Box<About>,
+pub struct Subject {
+    about: Arc<Option<About>>,
 }
 
-impl Model for BoxedAbout {
-    ghost use Rattle.std.specs.Box.{box_value};
+impl Model for Subject {
+    ghost use Rattle.std.specs.Prelude.{Option};
+    ghost use Rattle.std.specs.Arc.{arc_value};
     ghost use Rattle.fh_queues.specs.declared.row.About.{About};
 
-    ghost Value = { About };
+    ghost Value = { Option About };
 
-    ghost view = { λ b. box_value b.about };
+    ghost view = { λ s. arc_value s.about };
 }
 
-impl BoxedAbout {
-    pub(crate) fn new(alloc: Global, about: About) -> Result<BoxedAbout, NoMemory>
-        ensures { IfOk result (λ boxed. boxed ≡ about) }
+impl Subject {
+    pub(crate) fn new(alloc: Global, about: Option<About>) -> Result<Subject, NoMemory>
+        ensures { IfOk result (λ subject. subject ≡ about) }
     {
-        let about = Box::new(alloc, about)?;
-        Ok(BoxedAbout { about })
+        let about = Arc::new(alloc, about)?;
+        Ok(Subject { about })
     }
 
-    pub fn as_about(&self) -> &About
-        ensures { result.now ≡ self.now }
+    /// The same once more.
+    pub(crate) fn share(&self) -> Result<Subject, NoMemory>
+        ensures { IfOk result (λ subject. subject ≡ self.now) }
     {
-        self.about.as_ref()
+        let about = Arc::try_clone(&self.about)?;
+        Ok(Subject { about })
+    }
+
+    pub fn get(&self) -> Option<&About>
+        ensures { option_copied result ≡ self.now }
+    {
+        match &*self.about {
+            None => None,
+            Some(about) => Some(about),
+        }
     }
 }
 
@@ -76,7 +89,7 @@ pub struct Message {
     pub receipt: u64,
     /// Whether the last change of its visibility was a hold.
     pub held: bool,
-    pub about: Option<BoxedAbout>,
+    pub about: Subject,
 }
 
 impl Message {
