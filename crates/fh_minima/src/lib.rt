@@ -4,9 +4,10 @@
 //! a place on whose number is at most a bound, or none exactly where there is none. `push` adds a number
 //! behind the others, or is refused memory and adds none; `set` changes the number of a place and takes no
 //! memory. Above the numbers stand four levels, each number of a level at most the 32 below it, so that
-//! `first` and `set` look at a few hundred numbers at most among up to 33 million, and `first` passes 32 at
-//! a time over numbers above the bound. How fast they are is measured by those who use them, and not
-//! proved. Read specs/Tower.antt first.
+//! `first` and `set` look at a few hundred numbers at most among up to 33 million. `first` looks at 32
+//! numbers only where the one above them is at most the bound, and `set` goes up a level only where the
+//! number there changes. How fast they are is measured by those who use them, and not proved. Read
+//! specs/Tower.antt first.
 #![tactic(auto)]
 
 mod level;

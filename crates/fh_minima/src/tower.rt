@@ -1,6 +1,6 @@
 // Levels of keys, each key of an upper one at most those of its block of the level below.
 ghost use Rattle.std.specs.Prelude.{◌≡◌, ◌+◌, ◌<◌, ◌≤◌, ◌∷◌, ◌++◌, [], length, slice_set, OnOk, OnErr};
-ghost use Rattle.fh_minima.specs.Tower.{IsFirst, IsTower, IsBlockEnd};
+ghost use Rattle.fh_minima.specs.Tower.{IsFirst, IsFirstInBlock, IsTower, Covers, IsBlockEnd};
 
 use crate::NoMemory;
 use crate::level::Level;
@@ -19,8 +19,7 @@ pub(crate) fn first(keys: &Level, above: &[Level], from: usize, most: u64) -> Op
     };
     let mut start = from;
     loop {
-        let end = end_of_block(start, keys.len());
-        if let Some(place) = keys.scan(start, end, most) {
+        if let Some(place) = first_in_block(keys, blocks, start, most) {
             return Some(place);
         }
         let block = start / BLOCK + 1;
@@ -35,6 +34,19 @@ pub(crate) fn first(keys: &Level, above: &[Level], from: usize, most: u64) -> Op
         }
         start = next * BLOCK;
     }
+}
+
+// The first place from `start` to the end of its block whose key is at most the bound.
+fn first_in_block(keys: &Level, blocks: &Level, start: usize, most: u64) -> Option<usize>
+    requires covers { Covers keys.now blocks.now }
+    requires within { start ≤ length keys.now }
+    ensures { IsFirstInBlock keys.now start most result }
+{
+    let block = start / BLOCK;
+    if blocks.len() <= block || most < blocks.get(block) {
+        return None;
+    }
+    keys.scan(start, end_of_block(start, keys.len()), most)
 }
 
 // Where the block of that place ends.
@@ -59,14 +71,22 @@ pub(crate) fn set(keys: &mut Level, above: &mut [Level], place: usize, key: u64)
     ensures keys { keys.new ≡ slice_set keys.old place key }
     ensures tower { IsTower keys.new above.new }
 {
+    let old = keys.get(place);
     keys.set(place, key);
     let Some((blocks, rest)) = above.split_first_mut() else {
         return;
     };
     let block = place / BLOCK;
-    let start = block * BLOCK;
-    let least = keys.least(start, end_of_block(start, keys.len()));
-    set(blocks, rest, block, least);
+    let low = blocks.get(block);
+    if key < low {
+        set(blocks, rest, block, key);
+    } else if old <= low && low < key {
+        let start = block * BLOCK;
+        let least = keys.least(start, end_of_block(start, keys.len()));
+        if low < least {
+            set(blocks, rest, block, least);
+        }
+    }
 }
 
 /// Adds a key.
@@ -81,8 +101,9 @@ pub(crate) fn push(keys: &mut Level, above: &mut [Level], key: u64) -> Result<()
     };
     let block = keys.len() / BLOCK;
     if block < blocks.len() {
-        let least = blocks.get(block).min(key);
-        set(blocks, rest, block, least);
+        if key < blocks.get(block) {
+            set(blocks, rest, block, key);
+        }
     } else {
         match push(blocks, rest, key) {
             Ok(()) => (),

@@ -2,18 +2,18 @@
 ghost use Rattle.std.specs.Prelude.{◌≡◌};
 ghost use Rattle.fh_queues.specs.Acts.{is_one};
 
-use crate::{About, Ending, Message};
+use crate::{Ending, Expiry, Message, SharedName, Subject};
 use fh_base::{Moment, QueueName, Text};
 
 /// A message that is put. Its number and its receipt are the next ones.
 #[derive(Drop)]
 pub(crate) struct NewMessage {
-    pub(crate) queue: QueueName,
+    pub(crate) queue: SharedName,
     pub(crate) text: Text,
     pub(crate) put_at: u64,
     pub(crate) visible_at: u64,
-    pub(crate) expiry: Option<u64>,
-    pub(crate) about: Option<About>,
+    pub(crate) expiry: Expiry,
+    pub(crate) about: Subject,
 }
 
 /// What changes in a row beside its receipt, which is the next one.

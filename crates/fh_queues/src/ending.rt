@@ -80,10 +80,9 @@ impl Lists {
         if !which.is_one(row) {
             return;
         }
-        let (queue, place) = (row.queue, *place);
-        self.slots[at] = Slot::Ended { ending };
-        self.count -= 1;
+        self.lanes.set_key(&row.queue, *place, NEVER);
         self.expiries.set(at, NEVER);
-        self.lanes.set_key(&queue, place, NEVER);
+        self.count -= 1;
+        self.slots[at] = Slot::Ended { ending };
     }
 }

@@ -1,9 +1,10 @@
 // A queue's lane: the numbers of all messages that were ever put in it, and a key for each.
-ghost use Rattle.std.specs.Prelude.{◌≡◌, ℕ, ◌+◌, ◌<◌, ◌≤◌, ◌^◌, [], ◌∷◌, ◌++◌, length, slice_index, slice_set, true, false, OnOk};
+ghost use Rattle.std.specs.Prelude.{◌≡◌, ℕ, ◌+◌, ◌<◌, ◌≤◌, ◌^◌, [], ◌∷◌, ◌++◌, length, slice_index, slice_set, true, false, None, IfOk, OnOk};
 ghost use Rattle.fh_minima.specs.Tower.{IsFirst};
 ghost use Rattle.fh_queues.specs.Lanes.{KeepsKeys, GrowsLane, IsReady};
 
-use fh_base::{NoMemory, QueueName};
+use crate::{SharedName, Subject};
+use fh_base::NoMemory;
 use fh_minima::Minima;
 use std::alloc::Global;
 use std::marker::Model;
@@ -13,7 +14,9 @@ pub(crate) const NEVER: u64 = u64::MAX;
 
 #[derive(Drop)]
 pub(crate) struct Lane {
-    name: QueueName,
+    name: SharedName,
+    // What a message of it is about that is about no blob.
+    nothing: Subject,
     // Whether it is a queue, and not a lane that was only staged.
     made: bool,
     numbers: Vec<u64>,
@@ -22,7 +25,7 @@ pub(crate) struct Lane {
 }
 
 impl Model for Lane {
-    ghost use Rattle.std.specs.Prelude.{◌-◌, vec_len, vec_capacity};
+    ghost use Rattle.std.specs.Prelude.{◌≡◌, ◌-◌, None, vec_len, vec_capacity};
     ghost use Rattle.fh_queues.specs.Lanes.{LaneValue};
 
     ghost Value = { LaneValue };
@@ -34,11 +37,14 @@ impl Model for Lane {
       keys = lane.keys;
       room = vec_capacity lane.numbers - vec_len lane.numbers;
     } };
+
+    ghost invariant = { λ lane. lane.nothing ≡ None };
 }
 
 impl Lane {
     /// A lane that is no queue yet. Takes no memory.
-    pub(crate) fn new(alloc: Global, name: QueueName) -> Lane
+    pub(crate) fn new(alloc: Global, name: SharedName, nothing: Subject) -> Lane
+        requires { nothing ≡ None }
         ensures name { result.name ≡ name }
         ensures made { result.made ≡ false }
         ensures numbers { result.numbers ≡ [] }
@@ -46,6 +52,7 @@ impl Lane {
     {
         Lane {
             name,
+            nothing,
             made: false,
             numbers: Vec::new(alloc),
             keys: Minima::new(alloc),
@@ -56,6 +63,13 @@ impl Lane {
         ensures { result.now ≡ self.now.name }
     {
         self.name.as_bytes()
+    }
+
+    /// Its name once more, for a message, and that it is about no blob.
+    pub(crate) fn share(&self) -> Result<(SharedName, Subject), NoMemory>
+        ensures { IfOk result (λ shared. (shared.0 ≡ self.now.name) × (shared.1 ≡ None)) }
+    {
+        Ok((self.name.share()?, self.nothing.share()?))
     }
 
     pub(crate) fn is_made(&self) -> bool

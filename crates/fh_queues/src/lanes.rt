@@ -1,11 +1,12 @@
 // The lanes of all queues, in order of bytes of their names.
-ghost use Rattle.std.specs.Prelude.{◌≡◌, ◌+◌, ◌<◌, ◌≤◌, ◌^◌, List, ℕ, [], ◌∷◌, ◌++◌, length, map, slice_set, true, false, IfSome, OnOk};
+ghost use Rattle.std.specs.Prelude.{◌≡◌, ◌+◌, ◌<◌, ◌≤◌, ◌^◌, List, ℕ, [], ◌∷◌, ◌++◌, length, map, slice_set, true, false, None, IfOk, IfSome, OnOk};
 ghost use Rattle.std.specs.Str.{bytes_eq};
 ghost use Rattle.fh_queues.specs.Order.{are_in_order, with_name};
 ghost use Rattle.fh_queues.specs.Part.{has_queue};
 ghost use Rattle.fh_queues.specs.Lanes.{name_of, lane_of, queues_of, IsSought, IsNextIn, Grows, IsReady, SameKeys};
 
 use crate::lane::Lane;
+use crate::{SharedName, Subject};
 use fh_base::{NoMemory, QueueName};
 use std::alloc::Global;
 use std::cmp::Ordering;
@@ -56,6 +57,19 @@ impl Lanes {
         }
     }
 
+    /// The queue's name, as its lane shares it with its messages, and that one is about no blob.
+    pub(crate) fn share(&self, queue: &QueueName) -> Result<(SharedName, Subject), NoMemory>
+        ensures { IfOk result (λ shared. (shared.0 ≡ queue.now) × (shared.1 ≡ None)) }
+    {
+        match self.find(queue) {
+            Ok(at) => self.lanes[at].share(),
+            Err(_) => {
+                let name = SharedName::new(self.alloc, *queue)?;
+                Ok((name, Subject::new(self.alloc, None)?))
+            }
+        }
+    }
+
     /// The first place from `from` on in the queue's lane whose key is at most the bound.
     pub(crate) fn next_in(&self, queue: &QueueName, from: usize, most: u64) -> Option<Listed>
         requires from { from ≤ length (lane_of queue.now self.now).keys }
@@ -89,7 +103,9 @@ impl Lanes {
         match self.find(queue) {
             Ok(at) => self.lanes[at].reserve(more),
             Err(at) => {
-                let mut lane = Lane::new(self.alloc, *queue);
+                let name = SharedName::new(self.alloc, *queue)?;
+                let nothing = Subject::new(self.alloc, None)?;
+                let mut lane = Lane::new(self.alloc, name, nothing);
                 lane.reserve(more)?;
                 self.lanes.insert(at, lane)?;
                 Ok(())
@@ -109,7 +125,7 @@ impl Lanes {
     }
 
     /// Adds a message to the queue's lane, and says in which place. Takes no memory.
-    pub(crate) fn add(&mut self, queue: &QueueName, number: u64, key: u64) -> usize
+    pub(crate) fn add(&mut self, queue: &SharedName, number: u64, key: u64) -> usize
         requires { IsReady 1 (lane_of queue.now self.old) }
         ensures place { result ≡ length (lane_of queue.now self.old).numbers }
         ensures numbers { (lane_of queue.now self.new).numbers
@@ -121,14 +137,14 @@ impl Lanes {
             → lane_of name self.new ≡ lane_of name self.old }
         ensures queues { queues_of self.new ≡ queues_of self.old }
     {
-        let Ok(at) = self.find(queue) else {
+        let Ok(at) = self.find_shared(queue) else {
             return 0;
         };
         self.lanes[at].add(number, key)
     }
 
     /// Changes the key of a place in the queue's lane. Takes no memory.
-    pub(crate) fn set_key(&mut self, queue: &QueueName, place: usize, key: u64)
+    pub(crate) fn set_key(&mut self, queue: &SharedName, place: usize, key: u64)
         requires { place < length (lane_of queue.now self.old).keys }
         ensures lane { lane_of queue.now self.new
             ≡ record (lane_of queue.now self.old) { keys = slice_set (lane_of queue.now self.old).keys place key } }
@@ -136,9 +152,15 @@ impl Lanes {
             → lane_of name self.new ≡ lane_of name self.old }
         ensures queues { queues_of self.new ≡ queues_of self.old }
     {
-        if let Ok(at) = self.find(queue) {
+        if let Ok(at) = self.find_shared(queue) {
             self.lanes[at].set_key(place, key);
         }
+    }
+
+    fn find_shared(&self, queue: &SharedName) -> Result<usize, usize>
+        ensures { IsSought queue.now self.now result }
+    {
+        self.find(queue.name())
     }
 
     // Where the lane of that name stands, or its place.

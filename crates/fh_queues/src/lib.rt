@@ -16,6 +16,7 @@ mod change;
 mod choosing;
 mod done;
 mod ending;
+mod expiry;
 mod lane;
 mod lanes;
 mod laws;
@@ -26,12 +27,14 @@ mod reading;
 mod row;
 mod rows;
 mod rules;
+mod shared_name;
 mod slot;
 mod staging;
 
 pub use ask::QueueAsk;
 pub use change::{QueueChange, StagedQueues};
 pub use done::{Ending, QueueDone};
+pub use expiry::Expiry;
 pub use laws::{
     counters_move_little, messages_are_as_told, messages_go_on_as_answered,
     numbers_are_given_in_turn, parts_stay_whole, peeks_list_in_order_of_number, places_are_known,
@@ -39,7 +42,8 @@ pub use laws::{
     takes_list_visible_messages, texts_are_short,
 };
 pub use queues::Queues;
-pub use row::{About, Message};
+pub use row::{About, Message, Subject};
+pub use shared_name::SharedName;
 
 #[cfg(test)]
 mod tests;

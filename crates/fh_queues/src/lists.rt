@@ -113,7 +113,7 @@ impl Lists {
         let place = self
             .lanes
             .add(&row.queue, row.number, key_of(row.visible_at));
-        self.expiries.set(self.slots.len(), expiry_key(row.expiry));
+        self.expiries.set(self.slots.len(), expiry_key(&row.expiry));
         let _added = self.slots.push(Slot::Row { row, place });
         self.count += 1;
         self.next_receipt += 1;
@@ -168,7 +168,7 @@ fn reserve_lane(lanes: &mut Lanes, act: &Act, more: usize) -> Result<(), NoMemor
 {
     match act {
         Act::AddQueue { queue } => lanes.reserve(queue, more),
-        Act::AddRow { new } => lanes.reserve(&new.queue, more),
+        Act::AddRow { new } => lanes.reserve(new.queue.name(), more),
         Act::ChangeRow { .. } | Act::EndRows { .. } => Ok(()),
     }
 }

@@ -1,5 +1,5 @@
 // What an ask comes to, before anything changes.
-ghost use Rattle.std.specs.Prelude.{◌≡◌, ◌<◌, ◌≤◌, ◌+◌, ◌^◌, ◌∷◌, [], map, option_map, IfOk, IfErr, IfSome};
+ghost use Rattle.std.specs.Prelude.{◌≡◌, ◌<◌, ◌≤◌, ◌+◌, ◌^◌, ◌∷◌, [], None, map, option_map, IfOk, IfErr, IfSome};
 ghost use Rattle.fh_queues.specs.Asks.{ask_of};
 ghost use Rattle.fh_queues.specs.Acts.{sweep};
 ghost use Rattle.fh_queues.specs.declared.act.Act.TheVariants.{EndRows};
@@ -9,7 +9,7 @@ ghost use Rattle.fh_queues.specs.Faults.{IsPlanOf};
 
 use crate::act::{Act, NewMessage, RowChange, Which};
 use crate::choosing::taken_items;
-use crate::{About, Ending, Message, QueueAsk, QueueChange, QueueDone, Queues};
+use crate::{About, Ending, Expiry, Message, QueueAsk, QueueChange, QueueDone, Queues, Subject};
 use fh_base::{Moment, NoMemory, QueueName, Rule, Text};
 use fh_event::{Item, PlanFault};
 use std::alloc::Global;
@@ -112,13 +112,14 @@ impl Queues {
         if let Some(rule) = self.put_rule(queue, delay, ttl, text) {
             return Err(PlanFault::Rule(rule));
         }
+        let (queue, nothing) = self.lists.lanes.share(queue)?;
         let new = NewMessage {
-            queue: *queue,
+            queue,
             text: text.copy(alloc)?,
             put_at: m.ms(),
             visible_at: m.ms() + delay * MILLISECONDS,
             expiry: expiry_after(m, ttl),
-            about: copy_of(alloc, about)?,
+            about: subject_of(alloc, nothing, about)?,
         };
         let acts = one_act(alloc, m, Act::AddRow { new })?;
         Ok(QueueChange {
@@ -294,22 +295,23 @@ fn holds(alloc: Global, m: Moment, items: &[Item], until: u64) -> Result<Vec<Act
     Ok(acts)
 }
 
-fn expiry_after(m: Moment, ttl: Option<u64>) -> Option<u64>
+fn expiry_after(m: Moment, ttl: Option<u64>) -> Expiry
     requires { IfSome ttl (λ seconds. seconds ≤ 2147483647) }
     ensures { result ≡ expiry_after m ttl }
 {
     match ttl {
-        None => None,
-        Some(ttl) => Some(m.ms() + ttl * MILLISECONDS),
+        None => Expiry::never(),
+        Some(ttl) => Expiry::at(m.ms() + ttl * MILLISECONDS),
     }
 }
 
-fn copy_of(alloc: Global, about: Option<&About>) -> Result<Option<About>, NoMemory>
+fn subject_of(alloc: Global, nothing: Subject, about: Option<&About>) -> Result<Subject, NoMemory>
+    requires { nothing ≡ None }
     ensures { IfOk result (λ own. own ≡ option_map (λ a. a.now) about.entry) }
 {
     match about {
-        None => Ok(None),
-        Some(about) => Ok(Some(about.copy(alloc)?)),
+        None => Ok(nothing),
+        Some(about) => Subject::new(alloc, Some(about.copy(alloc)?)),
     }
 }
 

@@ -102,11 +102,13 @@ fn place_of_live(row: &Message, m: Moment) -> Place
 {
     if row.held && m.ms() < row.visible_at {
         return Place::Held {
-            queue: row.queue,
+            queue: *row.queue.name(),
             until: row.visible_at,
         };
     }
-    Place::Waiting { queue: row.queue }
+    Place::Waiting {
+        queue: *row.queue.name(),
+    }
 }
 
 fn place_of_ending(ending: Ending) -> Place

@@ -3,9 +3,9 @@ ghost use Rattle.std.specs.Prelude.{◌≡◌, ◌-◌, ◌^◌, ◌<◌, ◌≤
 ghost use Rattle.fh_queues.specs.Acts.{changed, numbered};
 ghost use Rattle.fh_queues.specs.Index.{IsNoLater};
 
-use crate::Message;
 use crate::act::{NewMessage, RowChange};
 use crate::lane::NEVER;
+use crate::{Expiry, Message};
 
 /// The greatest key of a message that stands.
 pub(crate) const LAST: u64 = NEVER - 1;
@@ -66,10 +66,10 @@ pub(crate) fn key_of(visible_at: u64) -> u64
 }
 
 /// A key that is no later than the expiry.
-pub(crate) fn expiry_key(expiry: Option<u64>) -> u64
-    ensures { IsNoLater result expiry }
+pub(crate) fn expiry_key(expiry: &Expiry) -> u64
+    ensures { IsNoLater result expiry.now }
 {
-    match expiry {
+    match expiry.get() {
         None => NEVER,
         Some(expiry) => expiry,
     }

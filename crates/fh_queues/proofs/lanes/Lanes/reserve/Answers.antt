@@ -17,7 +17,7 @@ pub invariant_of-self-in-Err : goal.invariant_of-self-in-Err
 invariant_of-self-in-Err c =
     let sought : IsSought c.args.queue.now c.self.inside.lanes.items (Err c.in-Err.at) = subst (λ (ls : List LaneValue). IsSought c.args.queue.now ls (Err c.in-Err.at)) (sym c.self.view_is) c.in-Err.ensures in
     let grown = c.in_ok-reserve-in-Err.ensures.grows in
-    let named : c.reserve-in-Err.new.self.name ≡ c.args.queue.now = grown.name ∙ c.new-lane.ensures.name in
+    let named : c.reserve-in-Err.new.self.name ≡ c.args.queue.now = grown.name ∙ c.new-lane.ensures.name ∙ c.in_ok-name-in-Err.ensures in
     let after : c.insert.new.self.items ≡ insert c.self.inside.lanes.items c.in-Err.at c.reserve-in-Err.new.self = c.in_ok-insert-in-Err.ensures.items in
     ap (λ (ls : List LaneValue). are_in_order (map name_of ls)) after ∙ in_order-insert c.args.queue.now c.self.inside.lanes.items c.in-Err.at c.reserve-in-Err.new.self c.self.invariant sought named
 
@@ -35,7 +35,7 @@ pub returns-in_ok-insert-in-Err-clause-grows : goal.returns-in_ok-insert-in-Err-
 returns-in_ok-insert-in-Err-clause-grows c =
     let sought : IsSought c.args.queue.now c.self.inside.lanes.items (Err c.in-Err.at) = subst (λ (ls : List LaneValue). IsSought c.args.queue.now ls (Err c.in-Err.at)) (sym c.self.view_is) c.in-Err.ensures in
     let grown = c.in_ok-reserve-in-Err.ensures.grows in
-    let named : c.reserve-in-Err.new.self.name ≡ c.args.queue.now = grown.name ∙ c.new-lane.ensures.name in
+    let named : c.reserve-in-Err.new.self.name ≡ c.args.queue.now = grown.name ∙ c.new-lane.ensures.name ∙ c.in_ok-name-in-Err.ensures in
     let after : c.insert.new.self.items ≡ insert c.self.inside.lanes.items c.in-Err.at c.reserve-in-Err.new.self = c.in_ok-insert-in-Err.ensures.items in
     subst (λ (ls : List LaneValue). Grows ls c.insert.new.self.items) c.self.view_is
     (rw after (insert-grows c.args.queue.now c.self.inside.lanes.items c.in-Err.at c.reserve-in-Err.new.self sought named (grown.made ∙ c.new-lane.ensures.made) (grown.numbers ∙ c.new-lane.ensures.numbers)))
@@ -44,7 +44,7 @@ pub returns-in_ok-insert-in-Err-clause-ready : goal.returns-in_ok-insert-in-Err-
 returns-in_ok-insert-in-Err-clause-ready c =
     let sought : IsSought c.args.queue.now c.self.inside.lanes.items (Err c.in-Err.at) = subst (λ (ls : List LaneValue). IsSought c.args.queue.now ls (Err c.in-Err.at)) (sym c.self.view_is) c.in-Err.ensures in
     let grown = c.in_ok-reserve-in-Err.ensures.grows in
-    let named : c.reserve-in-Err.new.self.name ≡ c.args.queue.now = grown.name ∙ c.new-lane.ensures.name in
+    let named : c.reserve-in-Err.new.self.name ≡ c.args.queue.now = grown.name ∙ c.new-lane.ensures.name ∙ c.in_ok-name-in-Err.ensures in
     let after : c.insert.new.self.items ≡ insert c.self.inside.lanes.items c.in-Err.at c.reserve-in-Err.new.self = c.in_ok-insert-in-Err.ensures.items in
     let lane : lane_of c.args.queue.now c.insert.new.self.items ≡ c.reserve-in-Err.new.self = ap (lane_of c.args.queue.now) after ∙ lane_of-insert c.args.queue.now c.self.inside.lanes.items c.in-Err.at c.reserve-in-Err.new.self sought named in
     rw lane c.in_ok-reserve-in-Err.ensures.ready

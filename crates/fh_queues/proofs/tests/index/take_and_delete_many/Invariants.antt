@@ -1,5 +1,5 @@
 use Rattle.fh_queues.specs.Edits.{IsIdle}
-use Rattle.fh_queues.proofs.tests.put_many.Given as goal
+use Rattle.fh_queues.proofs.tests.index.take_and_delete_many.Given as goal
 
 abbrev pub invariant-loop : goal.invariant-loop
 invariant-loop g l = IsIdle l.queues

@@ -1,5 +1,5 @@
 use Rattle.fh_queues.specs.Edits.{IsIdle}
-use Rattle.fh_queues.proofs.tests.interleaved_puts_are_found_as_by_a_plain_scan.Given as goal
+use Rattle.fh_queues.proofs.tests.index.interleaved_puts_are_found_as_by_a_plain_scan.Given as goal
 
 abbrev pub invariant-loop-step : goal.invariant-loop-step
 invariant-loop-step g l = IsIdle l.queues
