@@ -1,7 +1,7 @@
 -- The world, and one step of it. A step is judged in this order: the moment, the names, the rules of the
 -- stores, the answers that change nothing, the size of the entry, what a store is too full for, and the room in the
 -- journal. What is left then is recorded.
-use Rattle.std.specs.Prelude.{ℕ, ◌-◌, ◌^◌, min, max, nat_le, nat_lt, if◌then◌else◌, List, [], ◌∷◌, length, Option, Some, None, option_map}
+use Rattle.std.specs.Prelude.{ℕ, ◌-◌, ◌^◌, min, max, nat_le, nat_lt, if◌then◌else◌, [], ◌∷◌, length, Option, Some, None, option_map}
 use Rattle.fh_base.specs.Limits.{longest_payload}
 use Rattle.fh_base.specs.Moments.{greatest_moment}
 use Rattle.fh_base.specs.declared.rule.Rule.{Rule}
@@ -13,7 +13,7 @@ use Rattle.fh_event.specs.Judging.{Judged}
 use Rattle.fh_event.specs.Judging as judging
 use Rattle.fh_queues.specs.Rules.{first_broken}
 use Rattle.fh_journal.specs.Journal.{first_gate, gate_behind, full_at}
-use Rattle.fh_hub.specs.Stores.{Parts, no_parts, Asks, Done, outcomes, too_full}
+use Rattle.fh_hub.specs.Stores.{Parts, no_parts, Done, outcomes, too_full}
 use Rattle.fh_hub.specs.Asked.{Asked, Refuses, Reads, AsksAll, asked}
 use Rattle.fh_hub.specs.Replies.{reply_of}
 

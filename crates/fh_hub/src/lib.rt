@@ -29,8 +29,8 @@ pub use history::History;
 pub use hub::Hub;
 pub use laws::{
     files_have_one_history, leases_have_one_holder, legal_events_have_their_moments,
-    messages_are_in_one_place, messages_are_located, numbers_are_given_once, queues_are_whole, receipts_are_given_once,
-    receipts_guard_messages, receipts_only_rise,
+    messages_are_in_one_place, messages_are_located, numbers_are_given_once, queues_are_whole,
+    receipts_are_given_once, receipts_guard_messages, receipts_only_rise,
 };
 pub use mounting::prepare;
 pub use plan::{Change, Plan, Staged};
