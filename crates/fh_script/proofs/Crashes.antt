@@ -1,0 +1,152 @@
+-- What a crash leaves of a run's journal, and what its bytes stand for.
+use Rattle.std.proofs.Common.{◌≡◌, ◌⊎◌, inl, inr, ⊎_elim, ℕ, ◌≤◌, false, List, [], ◌++◌, Option, Some, None, IfSome, refl, sym, ◌∙◌, ap, subst, append_assoc, append-nil, arith}
+use Rattle.std.proofs.lemmas.Option.{IfSome_then}
+use Rattle.fh_disk.specs.Disk.{OnlyTold}
+use Rattle.fh_disk.specs.Moments.{LeavesOnly}
+use Rattle.fh_disk.specs.declared.disk.Disk.{Ghosts}
+use Rattle.fh_journal.specs.Journal.{IsJournalOf}
+use Rattle.fh_journal.specs.Keeping.{StaysTold}
+use Rattle.fh_journal.specs.Mounting.{IsBeingMade}
+use Rattle.fh_journal.proofs.Moments.{joins, widens}
+use Rattle.fh_journal.proofs.Readings.{journal_once}
+use Rattle.fh_hub.specs.Hub.{KeepsIn, LeavesSince, MayStandFor, StandsForHistory}
+use Rattle.fh_hub.specs.declared.hub.Hub.{Hub}
+use Rattle.fh_hub.specs.Replay.{Entry, payloads_of}
+use Rattle.fh_script.specs.Answerer.{HoldsIn, StandsEither}
+use Rattle.fh_script.specs.Outside.{crash_of}
+use Rattle.fh_script.specs.Script.{StandsForPart, SurvivesCrash}
+
+module _ {D : Type 0} {J : Ghosts D} {hub : Hub D J} (holds : HoldsIn hub) where
+  pub stands : IfSome (J.told hub.journal.disk.now) (StandsForHistory hub.state.history)
+  stands = IfSome_then (J.told hub.journal.disk.now) holds.keeps (λ file each. inr (hub.journal.gate, each.as_read))
+
+  -- what the file stands for, each image stands for too
+  pub survives : SurvivesCrash (J.told hub.journal.disk.now) (J.may_leave hub.journal.disk.now)
+  survives = IfSome_then (J.told hub.journal.disk.now) holds.keeps (λ file each other c stands left.
+      subst (IsJournalOf c)
+      (journal_once file (payloads_of hub.state.history) (payloads_of other) (inr (hub.journal.gate, each.as_read)) stands)
+      (inr (hub.journal.gate, each.after_crash c left)))
+
+  -- whatever entry may have failed, since none did
+  pub kept : (e : Entry) → KeepsIn hub e
+  kept e = rw holds.whole holds.keeps
+
+  -- a line that makes no call
+  pub leaves_as_was : ((disk : D) (c : List ℕ) → J.left_since disk (J.moment disk) c → J.may_leave disk c)
+      → (entries : List Entry) → LeavesSince hub hub (StandsEither hub.state.history entries)
+  leaves_as_was only_now entries =
+      IfSome_then (J.told hub.journal.disk.now) holds.keeps (λ file each. record {
+        later = omega arith;
+        each = λ c left. inl (inr (hub.journal.gate, each.after_crash c (only_now hub.journal.disk.now c left)));
+        before = λ t c le left. inl left;
+      })
+
+module _ {D : Type 0} {J : Ghosts D} (old new : Hub D J) (e : Entry) where
+  -- behind a step that went well
+  pub held : new.journal.torn ≡ false → KeepsIn new e ⊎ KeepsIn new e → HoldsIn new
+  held whole keeps = record { whole = whole; keeps = rw whole at (⊎_elim (λ was. was) (λ now. now) keeps) }
+
+  -- during a step, in a journal that isn't torn
+  pub leaves_either : (entries : List Entry) → old.journal.torn ≡ false
+      → LeavesSince old new (MayStandFor old.journal.torn old.state.history e entries)
+      → LeavesSince old new (StandsEither old.state.history entries)
+  leaves_either entries whole leaves =
+      IfSome_then (J.told old.journal.disk.now) leaves (λ file only. widens J.moment J.left_since _ _ _ _ only
+      (λ c. ⊎_elim (λ before. inl before) (⊎_elim (λ behind. inr behind) (λ broken. absurd (cc (broken.0, whole))))))
+
+-- where a crash leaves what reads give and nothing else, it leaves whatever that stands for
+pub survives_alone : (told : Option (List ℕ)) (images : List ℕ → Type 0) → OnlyTold told images
+    → SurvivesCrash told images
+survives_alone None images only = tt
+survives_alone (Some file) images only = λ history c stands left.
+    subst (StandsForHistory history) (sym (only c left)) stands
+
+part_of_either : (opening behind entries : List Entry) (c : List ℕ) → StandsEither (opening ++ behind) entries c
+    → StandsForPart opening (behind ++ entries) c
+part_of_either opening behind entries c (inl before) =
+    record { front = behind; rest = entries; whole = refl; stands = before }
+part_of_either opening behind entries c (inr after) = record {
+  front = behind ++ entries;
+  rest = [];
+  whole = sym (append-nil (behind ++ entries));
+  stands = rw append_assoc at after;
+}
+
+module _ {D : Type 0} (J : Ghosts D) where
+  abbrev Leaves : D → D → (List ℕ → Type 0) → Type 0
+  Leaves old new P = IfSome (J.told old) (λ _. LeavesOnly J.moment J.left_since old new P)
+
+  -- what is told is one of the images
+  pub told_is_left : (old new : D) (P : List ℕ → Type 0)
+      → ((disk : D) (c : List ℕ) → J.told disk ≡ Some c → J.may_leave disk c)
+      → ((disk : D) (t : ℕ) (c : List ℕ) → t ≤ J.moment disk → J.may_leave disk c → J.left_since disk t c)
+      → StaysTold (J.told old) (J.told new) → Leaves old new P → IfSome (J.told new) P
+  told_is_left old new P reads counts = of_told (J.told old) (J.told new) refl
+    where
+      of_told : (was now : Option (List ℕ)) → J.told new ≡ now → StaysTold was now
+          → IfSome was (λ _. LeavesOnly J.moment J.left_since old new P) → IfSome now P
+      of_told None now is stays leaves = rw stays tt
+      of_told (Some a) None is stays leaves = tt
+      of_told (Some a) (Some b) is stays leaves = leaves.each b (counts new (J.moment old) b leaves.later (reads new b is))
+
+  -- one line more
+  pub more_images : (first mid new : D) (opening behind entries : List Entry) → StaysTold (J.told first) (J.told mid)
+      → crash_of J first mid (StandsForPart opening behind) → Leaves mid new (StandsEither (opening ++ behind) entries)
+      → crash_of J first new (StandsForPart opening (behind ++ entries))
+  more_images first mid new opening behind entries = of_told (J.told first) (J.told mid)
+    where
+      part_grows : (c : List ℕ) → StandsForPart opening behind c → StandsForPart opening (behind ++ entries) c
+      part_grows c it = record {
+        front = it.front;
+        rest = it.rest ++ entries;
+        whole = ap (λ (h : List Entry). h ++ entries) it.whole ∙ append_assoc it.front it.rest entries;
+        stands = it.stands;
+      }
+
+      of_told : (was now : Option (List ℕ)) → StaysTold was now
+          → IfSome was (λ _. LeavesOnly J.moment J.left_since first mid (λ c. J.may_leave first c ⊎ StandsForPart opening behind c))
+          → IfSome now (λ _. LeavesOnly J.moment J.left_since mid new (StandsEither (opening ++ behind) entries))
+          → IfSome was (λ _. LeavesOnly J.moment J.left_since first new
+          (λ c. J.may_leave first c ⊎ StandsForPart opening (behind ++ entries) c))
+      of_told None now stays before line = tt
+      of_told (Some a) None stays before line = absurd stays
+      of_told (Some a) (Some b) stays before line =
+          joins J.moment J.left_since first mid new _ _ _ before line
+          (λ c. ⊎_elim (λ a. inl a) (λ b. inr (part_grows c b)))
+          (λ c now. inr (part_of_either opening behind entries c now))
+
+  -- behind a mount
+  pub mounted_images : (first mid : D) (opening : List Entry)
+      → IfSome (J.told first) (λ file. StandsForHistory opening file
+      → LeavesOnly J.moment J.left_since first mid (λ c. J.may_leave first c ⊎ StandsForHistory opening c))
+      → IfSome (J.told first) (StandsForHistory opening) → crash_of J first mid (StandsForPart opening [])
+  mounted_images first mid opening = of_told (J.told first)
+    where
+      of_told : (was : Option (List ℕ))
+          → IfSome was (λ file. StandsForHistory opening file
+          → LeavesOnly J.moment J.left_since first mid (λ c. J.may_leave first c ⊎ StandsForHistory opening c))
+          → IfSome was (StandsForHistory opening)
+          → IfSome was (λ _. LeavesOnly J.moment J.left_since first mid
+          (λ c. J.may_leave first c ⊎ StandsForPart opening [] c))
+      of_told None leaves stood = tt
+      of_told (Some file) leaves stood =
+          widens J.moment J.left_since first mid _ _ (leaves stood)
+          (λ c. ⊎_elim (λ a. inl a) (λ b. inr (record { front = []; rest = []; whole = refl; stands = rw append-nil b })))
+
+-- behind a mount that failed
+pub unmounted_images : (told : Option (List ℕ)) (Leaves : (List ℕ → Type 0) → Type 0) (Was : List ℕ → Type 0)
+    → IfSome told (λ file. Leaves (λ c. Was c ⊎ IsBeingMade file c))
+    → IfSome told (λ _. Leaves (λ c. Was c ⊎ IfSome told (λ file. IsBeingMade file c)))
+unmounted_images None Leaves Was leaves = tt
+unmounted_images (Some file) Leaves Was leaves = leaves
+
+-- bytes that are told stay told
+pub stays_as_told : (told : Option (List ℕ)) → StaysTold told told
+stays_as_told None = refl
+stays_as_told (Some file) = tt
+
+pub stays_told : (told mid now : Option (List ℕ)) → StaysTold told mid → StaysTold mid now → StaysTold told now
+stays_told None mid now first second = rw first at second
+stays_told (Some file) None now first second = absurd first
+stays_told (Some file) (Some mid) None first second = absurd second
+stays_told (Some file) (Some mid) (Some now) first second = tt
