@@ -7,10 +7,11 @@ use Rattle.fh_disk.specs.declared.disk.Disk.{Ghosts}
 use Rattle.fh_journal.specs.Journal.{IsJournalOf}
 use Rattle.fh_journal.specs.Keeping.{StaysTold}
 use Rattle.fh_journal.specs.Mounting.{IsBeingMade}
-use Rattle.fh_journal.proofs.Moments.{joins, widens}
+use Rattle.fh_journal.proofs.Moments.{joins, where_both, widens}
 use Rattle.fh_journal.proofs.Readings.{journal_once}
 use Rattle.fh_hub.specs.Hub.{KeepsIn, LeavesSince, MayStandFor, StandsForHistory}
 use Rattle.fh_hub.specs.declared.hub.Hub.{Hub}
+use Rattle.fh_hub.specs.History.{entry_of}
 use Rattle.fh_hub.specs.Replay.{Entry, payloads_of}
 use Rattle.fh_script.specs.Answerer.{HoldsIn, StandsEither}
 use Rattle.fh_script.specs.Outside.{crash_of}
@@ -41,25 +42,24 @@ module _ {D : Type 0} {J : Ghosts D} {hub : Hub D J} (holds : HoldsIn hub) where
         before = λ t c le left. inl left;
       })
 
-module _ {D : Type 0} {J : Ghosts D} (old new : Hub D J) (e : Entry) where
+module _ {D : Type 0} {J : Ghosts D} {old : Hub D J} (holds : HoldsIn old) (new : Hub D J) where
   -- behind a step that went well
-  pub held : new.journal.torn ≡ false → KeepsIn new e ⊎ KeepsIn new e → HoldsIn new
-  held whole keeps = record { whole = whole; keeps = rw whole at (⊎_elim (λ was. was) (λ now. now) keeps) }
+  pub held : (e : Entry) → new.journal.torn ≡ false
+      → ((failed : Entry) → KeepsIn old failed → KeepsIn new failed ⊎ KeepsIn new e) → HoldsIn new
+  held e whole keeps = record {
+    whole = whole;
+    keeps = rw whole at (⊎_elim (λ was. was) (λ now. now) (keeps e (kept holds e)));
+  }
 
-  -- during a step, in a journal that isn't torn
-  pub leaves_either : (entries : List Entry) → old.journal.torn ≡ false
-      → LeavesSince old new (MayStandFor old.journal.torn old.state.history e entries)
+  -- during a step
+  pub leaves_either : (entries : List Entry)
+      → ((failed : Entry) → KeepsIn old failed
+      → LeavesSince old new (MayStandFor old.journal.torn old.state.history failed entries))
       → LeavesSince old new (StandsEither old.state.history entries)
-  leaves_either entries whole leaves =
-      IfSome_then (J.told old.journal.disk.now) leaves (λ file only. widens J.moment J.left_since _ _ _ _ only
-      (λ c. ⊎_elim (λ before. inl before) (⊎_elim (λ behind. inr behind) (λ broken. absurd (cc (broken.0, whole))))))
-
--- where a crash leaves what reads give and nothing else, it leaves whatever that stands for
-pub survives_alone : (told : Option (List ℕ)) (images : List ℕ → Type 0) → OnlyTold told images
-    → SurvivesCrash told images
-survives_alone None images only = tt
-survives_alone (Some file) images only = λ history c stands left.
-    subst (StandsForHistory history) (sym (only c left)) stands
+  leaves_either entries leaves =
+      IfSome_then (J.told old.journal.disk.now) (leaves (entry_of []) (kept holds (entry_of []))) (λ file only.
+      widens J.moment J.left_since _ _ _ _ only
+      (λ c. ⊎_elim (λ before. inl before) (⊎_elim (λ behind. inr behind) (λ broken. absurd (cc (broken.0, holds.whole))))))
 
 part_of_either : (opening behind entries : List Entry) (c : List ℕ) → StandsEither (opening ++ behind) entries c
     → StandsForPart opening (behind ++ entries) c
@@ -71,6 +71,21 @@ part_of_either opening behind entries c (inr after) = record {
   whole = sym (append-nil (behind ++ entries));
   stands = rw append_assoc at after;
 }
+
+part_grows : (opening behind entries : List Entry) (c : List ℕ) → StandsForPart opening behind c
+    → StandsForPart opening (behind ++ entries) c
+part_grows opening behind entries c it = record {
+  front = it.front;
+  rest = it.rest ++ entries;
+  whole = rw it.whole (append_assoc it.front it.rest entries);
+  stands = it.stands;
+}
+
+-- what follows from two facts on told bytes
+where_told : (told : Option (List ℕ)) (P Q R : List ℕ → Type 0) → IfSome told P → IfSome told Q
+    → ((file : List ℕ) → P file → Q file → R file) → IfSome told R
+where_told None P Q R one two then = tt
+where_told (Some file) P Q R one two then = then file one two
 
 module _ {D : Type 0} (J : Ghosts D) where
   abbrev Leaves : D → D → (List ℕ → Type 0) → Type 0
@@ -93,52 +108,21 @@ module _ {D : Type 0} (J : Ghosts D) where
   pub more_images : (first mid new : D) (opening behind entries : List Entry) → StaysTold (J.told first) (J.told mid)
       → crash_of J first mid (StandsForPart opening behind) → Leaves mid new (StandsEither (opening ++ behind) entries)
       → crash_of J first new (StandsForPart opening (behind ++ entries))
-  more_images first mid new opening behind entries = of_told (J.told first) (J.told mid)
-    where
-      part_grows : (c : List ℕ) → StandsForPart opening behind c → StandsForPart opening (behind ++ entries) c
-      part_grows c it = record {
-        front = it.front;
-        rest = it.rest ++ entries;
-        whole = ap (λ (h : List Entry). h ++ entries) it.whole ∙ append_assoc it.front it.rest entries;
-        stands = it.stands;
-      }
-
-      of_told : (was now : Option (List ℕ)) → StaysTold was now
-          → IfSome was (λ _. LeavesOnly J.moment J.left_since first mid (λ c. J.may_leave first c ⊎ StandsForPart opening behind c))
-          → IfSome now (λ _. LeavesOnly J.moment J.left_since mid new (StandsEither (opening ++ behind) entries))
-          → IfSome was (λ _. LeavesOnly J.moment J.left_since first new
-          (λ c. J.may_leave first c ⊎ StandsForPart opening (behind ++ entries) c))
-      of_told None now stays before line = tt
-      of_told (Some a) None stays before line = absurd stays
-      of_told (Some a) (Some b) stays before line =
-          joins J.moment J.left_since first mid new _ _ _ before line
-          (λ c. ⊎_elim (λ a. inl a) (λ b. inr (part_grows c b)))
-          (λ c now. inr (part_of_either opening behind entries c now))
+  more_images first mid new opening behind entries stays before line =
+      where_both (J.told first) (J.told mid) _ _ _ stays before line
+      (λ one two. joins J.moment J.left_since first mid new _ _ _ one two
+      (λ c. ⊎_elim (λ a. inl a) (λ it. inr (part_grows opening behind entries c it)))
+      (λ c now. inr (part_of_either opening behind entries c now)))
 
   -- behind a mount
   pub mounted_images : (first mid : D) (opening : List Entry)
       → IfSome (J.told first) (λ file. StandsForHistory opening file
       → LeavesOnly J.moment J.left_since first mid (λ c. J.may_leave first c ⊎ StandsForHistory opening c))
       → IfSome (J.told first) (StandsForHistory opening) → crash_of J first mid (StandsForPart opening [])
-  mounted_images first mid opening = of_told (J.told first)
-    where
-      of_told : (was : Option (List ℕ))
-          → IfSome was (λ file. StandsForHistory opening file
-          → LeavesOnly J.moment J.left_since first mid (λ c. J.may_leave first c ⊎ StandsForHistory opening c))
-          → IfSome was (StandsForHistory opening)
-          → IfSome was (λ _. LeavesOnly J.moment J.left_since first mid
-          (λ c. J.may_leave first c ⊎ StandsForPart opening [] c))
-      of_told None leaves stood = tt
-      of_told (Some file) leaves stood =
-          widens J.moment J.left_since first mid _ _ (leaves stood)
-          (λ c. ⊎_elim (λ a. inl a) (λ b. inr (record { front = []; rest = []; whole = refl; stands = rw append-nil b })))
-
--- behind a mount that failed
-pub unmounted_images : (told : Option (List ℕ)) (Leaves : (List ℕ → Type 0) → Type 0) (Was : List ℕ → Type 0)
-    → IfSome told (λ file. Leaves (λ c. Was c ⊎ IsBeingMade file c))
-    → IfSome told (λ _. Leaves (λ c. Was c ⊎ IfSome told (λ file. IsBeingMade file c)))
-unmounted_images None Leaves Was leaves = tt
-unmounted_images (Some file) Leaves Was leaves = leaves
+  mounted_images first mid opening leaves stood =
+      where_told (J.told first) _ _ _ leaves stood (λ file leaves stood.
+      widens J.moment J.left_since first mid _ _ (leaves stood)
+      (λ c. ⊎_elim (λ a. inl a) (λ b. inr (record { front = []; rest = []; whole = refl; stands = rw append-nil b }))))
 
 -- bytes that are told stay told
 pub stays_as_told : (told : Option (List ℕ)) → StaysTold told told

@@ -2,6 +2,5 @@ pub mod LineReading
 pub mod Crashes
 pub mod Turning
 pub mod Mounting
-pub mod Completing
 pub mod Decoding
 pub mod Printing

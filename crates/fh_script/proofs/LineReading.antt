@@ -1,11 +1,15 @@
 -- What a line that was read leaves of a source.
-use Rattle.std.proofs.Common.{◌≡◌, ℕ, ◌+◌, ◌-◌, ◌<◌, ◌≤◌, ◌==◌, Bool, true, false, cond, List, [], ◌∷◌, ◌++◌, length, take, Option, Some, None, refl, sym, ◌∙◌, ap, arith, append_assoc, append-nil, length-append}
+use Rattle.std.proofs.Common.{if◌then◌else◌, ◌&&◌, ◌≡◌, ℕ, ◌+◌, ◌-◌, ◌<◌, ◌≤◌, ◌==◌, Bool, true, false, cond, List, [], ◌∷◌, ◌++◌, length, take, Option, Some, None, refl, sym, ◌∙◌, ap, arith, append_assoc, append-nil, length-append}
 use Rattle.std.proofs.KnownBytes.{Consumes-trans}
+use Rattle.std.specs.List.{list_all}
+use Rattle.std.proofs.lemmas.Bool.{leb-true}
+use Rattle.std.proofs.lemmas.List.Folds.{list_all-append}
 use Rattle.std.proofs.lemmas.Bool.Decides.{nat_tests, Decides-eqb}
 use Rattle.std.proofs.lemmas.List.Sums.{sum_by-append}
 use Rattle.std.proofs.lemmas.Slice.Eq.{ends_is}
 use Rattle.std.specs.Io.KnownBytes.{Consumes, IsAtEnd}
 use Rattle.fh_script.specs.Lines.{FindsEnd, FindsLine, IsFirstLine, StartsLong, Took, is_ended, is_line_feed, before_lines, line_feeds, line_length, lines}
+use Rattle.fh_script.specs.Script.{Reads, is_short_line}
 
 pub line_feeds-append : (a b : List ℕ) → line_feeds (a ++ b) ≡ line_feeds a + line_feeds b
 line_feeds-append a b = sum_by-append (λ x. cond (is_line_feed x) 1 0) a b
@@ -119,3 +123,39 @@ module _ {was mid now : Option (List ℕ)} where
       at_end (Some a) None taken end = absurd taken
       at_end (Some a) (Some b) taken end = taken ∙ end
   found_end (e ∷ line) none it end = absurd (omega (arith, none))
+
+both : (a b : Bool) → (a && b) ≡ true → (a ≡ true) × (b ≡ true)
+both true b all = (refl, all)
+both false b all = absurd (cc)
+
+abbrev first_of : List (List ℕ) → List ℕ
+first_of [] = []
+first_of (line ∷ more) = line
+
+in_front : (b : ℕ) (l : List (List ℕ))
+    → line_length (first_of (before_lines b l)) ≡ (if is_line_feed b then 0 else line_length (first_of l) + 1)
+in_front b [] = refl
+in_front b (line ∷ more) = refl
+
+line_length-first_of : (bytes : List ℕ) → line_length (first_of (lines bytes)) ≡ line_length bytes
+line_length-first_of [] = refl
+line_length-first_of (b ∷ rest) = by_cases (is_line_feed b) refl (line_length-first_of rest)
+  where
+    by_cases : (f : Bool) → is_line_feed b ≡ f → line_length (first_of (lines rest)) ≡ line_length rest
+        → line_length (first_of (lines (b ∷ rest))) ≡ line_length (b ∷ rest)
+    by_cases true feed behind = rw feed (rw feed refl)
+    by_cases false plain behind = rw plain (in_front b (lines rest) ∙ rw plain (ap (λ (n : ℕ). n + 1) behind))
+
+first_short : (l : List (List ℕ)) → list_all is_short_line l ≡ true → line_length (first_of l) ≤ 140000
+first_short [] short = omega arith
+first_short (line ∷ more) short = leb-true (line_length line) 140000 (both _ _ short).0
+
+-- where no line is too long, the first that is left isn't either
+pub not_long : (bytes : List ℕ) (left : Option (List ℕ)) (done : List (List ℕ))
+    → list_all is_short_line (lines bytes) ≡ true → Reads (Some bytes) left done → StartsLong left → ⊥
+not_long bytes None done short read long = read
+not_long bytes (Some l) done short read long =
+    let all : list_all is_short_line (done ++ lines l) ≡ true = rw read at short in
+    let rest : list_all is_short_line (lines l) ≡ true =
+    (both _ _ (sym (list_all-append is_short_line done (lines l)) ∙ all)).1 in
+    omega (arith, long, line_length-first_of l, first_short (lines l) rest)

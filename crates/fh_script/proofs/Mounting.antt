@@ -52,23 +52,3 @@ begins {J = J} S O source sink first disk state answerer state_is at_once disk_i
     nothing : (l : Option (List ℕ)) → Reads l l []
     nothing None = tt
     nothing (Some a) = refl
-
--- where memory was refused for the last line, that is told in place of the frame
-pub tells_mount : (was now : Outside) (leaves : Imaging) (fault told : HubFault) → Tells fault told
-    → Unmounted was now leaves fault → Counts was now (unmounted_code fault)
-    → Unmounted was now leaves told × Counts was now (unmounted_code told)
-tells_mount was now leaves BadHeader told is it counts = rw is (it, counts)
-tells_mount was now leaves (BadFrame at rule) told (inl is) it counts = rw is (it, counts)
-tells_mount was now leaves (BadFrame at rule) told (inr is) it counts =
-    rw is (
-      record { left = it.left; written = it.written; bytes = left_alone was.told now.told it.bytes; images = it.images },
-      record { reading = counts.reading; disk = counts.disk; writing = counts.writing },
-    )
-  where
-    left_alone : (old new : Option (List ℕ)) → MountsHistory old new (Some (BadFrame at rule))
-        → MountsHistory old new (Some NoMemory)
-    left_alone None new mounted = mounted
-    left_alone (Some a) None mounted = absurd mounted
-    left_alone (Some a) (Some b) mounted = inl mounted.0
-tells_mount was now leaves DiskFault told is it counts = rw is (it, counts)
-tells_mount was now leaves NoMemory told is it counts = rw is (it, counts)

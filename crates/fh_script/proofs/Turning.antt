@@ -150,18 +150,9 @@ module _ {A B D : Type 0} {J : Ghosts D} {S : SourceGhosts A} {O : SinkGhosts B}
   )
 
   pub unanswered : LacksMemory old new does.entries → EndsWith S O was first next sink new NoMemory
-  unanswered lacks = ⊎_elim before (λ made. inr (line, made_line sink (rw made at (stands lacks.holds)))) lacks.made
-    where
-      before : (now_disk ≡ old.hub.journal.disk.now) × (new.hub.state.history ≡ old.hub.state.history)
-          → EndsWith S O was first next sink new NoMemory
-      before same = inl (record {
-        left = S.left source;
-        lines = it.run.lines;
-        took = took_line;
-        only = tt;
-        stands = rw (it.run.comes, ← it.run.longer, ← same.1) (stands lacks.holds);
-        images = rw (it.run.comes, same.0) it.run.images;
-      })
+  unanswered lacks =
+      ⊎_elim (λ same. rw same.0 (stops it.run (S.left next) (S.read_faults next) NoMemory took_line (λ read. absurd (cc read))))
+      (λ made. inr (line, made_line sink (rw made at (stands lacks.holds)))) lacks.made
 
   module _ (text : List ℕ) (done : HasDone old new does text) (now_sink : B) where
     -- the answer was written in part
@@ -210,16 +201,6 @@ module _ {A B D : Type 0} {J : Ghosts D} {S : SourceGhosts A} {O : SinkGhosts B}
       feeds = feeds-push it.run.lines.done line it.feeds one;
       told = stays_told _ _ _ it.told stays;
     }
-
--- what a source that ends the lines has counted
-pub counts_read : (was : Outside) (left now_left : Option (List ℕ)) (reads : ℕ) (end : PlainEnd)
-    → EndsAt left now_left end → CountsRead was.read_faults reads (Some end)
-    → Counts was (record was { left = now_left; read_faults = reads }) (plain_code end)
-counts_read was left now_left reads Finished ends it = record { reading = it; disk = refl; writing = refl }
-counts_read was left now_left reads ReadFault ends it = record { reading = it; disk = refl; writing = refl }
-counts_read was left now_left reads LongLine ends it = record { reading = it; disk = refl; writing = refl }
-counts_read was left now_left reads NoMemory ends it = record { reading = it; disk = refl; writing = refl }
-counts_read was left now_left reads _ ends it = absurd ends
 
 -- counts behind a part in which nothing failed
 pub counts_on : {was mid now : Outside} {code : ℕ} → Counts was mid 0 → Counts mid now code → Counts was now code

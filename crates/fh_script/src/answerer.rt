@@ -52,7 +52,7 @@ impl<'d, J: Disk> Answerer<'d, J> {
 
     /// Does what a line says, and gives the text that answers it: empty for a line of no words. Where that
     /// text finds no memory the step may have been made.
-    #[tactic(auto, unfolding(crate::specs::Machine::answer_line), using(crate::proofs::Crashes::stays_as_told))]
+    #[tactic(auto, unfolding(crate::specs::Machine::answer_line), using(crate::proofs::Crashes::leaves_as_was, crate::proofs::Crashes::stays_as_told))]
     pub fn answer(&mut self, alloc: Global, line: &[u8]) -> Result<String, AnswerFault>
         requires holds { HoldsIn self.old.hub }
         ensures done { IfOk result
@@ -74,6 +74,7 @@ impl<'d, J: Disk> Answerer<'d, J> {
         }
     }
 
+    #[tactic(auto, using(crate::proofs::Crashes::held, crate::proofs::Crashes::leaves_either))]
     fn step(&mut self, alloc: Global, command: &Command) -> Result<String, AnswerFault>
         requires holds { HoldsIn self.old.hub }
         ensures done { IfOk result

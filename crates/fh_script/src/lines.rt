@@ -1,5 +1,5 @@
 // The lines of a source.
-ghost use Rattle.std.specs.Prelude.{◌≡◌, ◌<◌, true, IfNone, IfSome};
+ghost use Rattle.std.specs.Prelude.{◌≡◌, ◌<◌, ◌==◌, true, false, IfNone, IfSome};
 ghost use Rattle.fh_script.specs.Ends.{code_so_far, is_of_lines};
 ghost use Rattle.fh_script.specs.Lines.{CountsRead, EndsAt, FindsLine, line_text};
 
@@ -13,6 +13,7 @@ pub(crate) fn read_line<S: Source>(source: &mut S, line: &mut Vec<u8>) -> Option
     ensures read { IfNone result (FindsLine (S.left source.old) (S.left source.new) line.new.items) }
     ensures ends { IfSome result (EndsAt (S.left source.old) (S.left source.new)) }
     ensures counts { CountsRead (S.read_faults source.old) (S.read_faults source.new) result }
+    ensures own { ((code_so_far result == 6) ≡ false) × ((code_so_far result == 7) ≡ false) }
     ensures of_lines { is_of_lines (code_so_far result) ≡ true }
     ensures less { IfNone result (S.most source.new < S.most source.old) }
 {

@@ -20,6 +20,7 @@ use std::alloc::Global;
 /// line is read. The words are those of the command line, the name of the command first. The status is
 /// 0 where the source was read to its end; docs/commands.md has the others, each with its last line.
 /// The checkpoint is left alone.
+#[tactic(auto, using(crate::proofs::LineReading::not_long))]
 pub fn script<S: Source, O: Sink, J: Disk, K: Disk>(
     alloc: Global,
     words: &[String],
@@ -111,6 +112,7 @@ fn run<S: Source, O: Sink, J: Disk>(
 }
 
 // Answers the lines from the first on, and says how they end.
+#[tactic(auto, using(crate::proofs::Crashes::stays_as_told, crate::proofs::Crashes::stays_told, crate::proofs::Turning::counts_on))]
 fn answer_lines<S: Source, O: Sink, J: Disk>(
     alloc: Global,
     source: &mut S,

@@ -3,14 +3,11 @@ use Rattle.std.proofs.KnownBytes.{Consumes-nil}
 use Rattle.fh_base.specs.declared.ends.PlainEnd.TheVariants.{Finished}
 use Rattle.fh_script.specs.Lines.{FindsLine}
 use Rattle.fh_script.proofs.Crashes.{told_is_left}
-use Rattle.fh_script.proofs.Turning.{counts_read, cut_off, disk_fails, goes_on, next_line, stops, unanswered}
+use Rattle.fh_script.proofs.Turning.{cut_off, disk_fails, goes_on, next_line, stops, unanswered}
 use Rattle.fh_script.proofs.running.answer_next.Goals as goal
 
 pub returns-in-Some-clause-goes : goal.returns-in-Some-clause-goes
 returns-in-Some-clause-goes g c = λ was first it. stops it.run _ _ c.in-Some.end c.in-Some.ensures.ends (λ read. it.feeds)
-
-pub returns-in-Some-clause-counts : goal.returns-in-Some-clause-counts
-returns-in-Some-clause-counts g c = counts_read _ _ _ _ c.in-Some.end c.in-Some.ensures.ends c.in-Some.ensures.counts
 
 pub returns-in-Err-DiskFault-clause-goes : goal.returns-in-Err-DiskFault-clause-goes
 returns-in-Err-DiskFault-clause-goes g c = λ was first it.
