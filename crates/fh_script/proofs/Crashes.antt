@@ -1,12 +1,10 @@
 -- What a crash leaves of a run's journal, and what its bytes stand for.
-use Rattle.std.proofs.Common.{◌≡◌, ◌⊎◌, inl, inr, ⊎_elim, ℕ, ◌≤◌, false, List, [], ◌++◌, Option, Some, None, IfSome, refl, sym, ◌∙◌, ap, subst, append_assoc, append-nil, arith}
+use Rattle.std.proofs.Common.{◌≡◌, ◌⊎◌, inl, inr, ⊎_elim, ℕ, ◌≤◌, false, List, [], ◌++◌, Option, Some, None, IfSome, refl, sym, subst, append_assoc, append-nil, arith}
 use Rattle.std.proofs.lemmas.Option.{IfSome_then}
-use Rattle.fh_disk.specs.Disk.{OnlyTold}
 use Rattle.fh_disk.specs.Moments.{LeavesOnly}
 use Rattle.fh_disk.specs.declared.disk.Disk.{Ghosts}
 use Rattle.fh_journal.specs.Journal.{IsJournalOf}
 use Rattle.fh_journal.specs.Keeping.{StaysTold}
-use Rattle.fh_journal.specs.Mounting.{IsBeingMade}
 use Rattle.fh_journal.proofs.Moments.{joins, where_both, widens}
 use Rattle.fh_journal.proofs.Readings.{journal_once}
 use Rattle.fh_hub.specs.Hub.{KeepsIn, LeavesSince, MayStandFor, StandsForHistory}
@@ -84,8 +82,7 @@ part_grows opening behind entries c it = record {
 -- what follows from two facts on told bytes
 where_told : (told : Option (List ℕ)) (P Q R : List ℕ → Type 0) → IfSome told P → IfSome told Q
     → ((file : List ℕ) → P file → Q file → R file) → IfSome told R
-where_told None P Q R one two then = tt
-where_told (Some file) P Q R one two then = then file one two
+where_told told P Q R one two then = grind arith
 
 module _ {D : Type 0} (J : Ghosts D) where
   abbrev Leaves : D → D → (List ℕ → Type 0) → Type 0
@@ -126,11 +123,7 @@ module _ {D : Type 0} (J : Ghosts D) where
 
 -- bytes that are told stay told
 pub stays_as_told : (told : Option (List ℕ)) → StaysTold told told
-stays_as_told None = refl
-stays_as_told (Some file) = tt
+stays_as_told told = grind arith
 
 pub stays_told : (told mid now : Option (List ℕ)) → StaysTold told mid → StaysTold mid now → StaysTold told now
-stays_told None mid now first second = rw first at second
-stays_told (Some file) None now first second = absurd first
-stays_told (Some file) (Some mid) None first second = absurd second
-stays_told (Some file) (Some mid) (Some now) first second = tt
+stays_told told mid now first second = grind arith

@@ -1,30 +1,31 @@
--- How a run goes on from the lines before the next one, and how it ends there.
-use Rattle.std.proofs.Common.{◌≡◌, ◌⊎◌, inl, inr, ⊎_elim, ℕ, ◌+◌, ◌<◌, ◌≤◌, Bool, true, ◌&&◌, List, [], ◌∷◌, ◌++◌, length, take, Option, Some, None, IfSome, MatchBool, refl, sym, ◌∙◌, ap, subst, arith, append_assoc, append-nil, length-append}
+-- How a run begins behind a mount, goes on from the lines before the next one, and ends there.
+use Rattle.std.proofs.Common.{◌≡◌, ◌⊎◌, inl, inr, ⊎_elim, ℕ, ◌<◌, ◌≤◌, true, List, [], ◌∷◌, ◌++◌, length, take, Option, Some, None, IfSome, refl, sym, ◌∙◌, ap, arith, append_assoc, append-nil, length-append}
 use Rattle.std.specs.List.{list_all}
 use Rattle.std.proofs.lemmas.Bool.{le-leb}
 use Rattle.std.proofs.lemmas.Grind.{flat_map-append}
 use Rattle.std.proofs.lemmas.List.Folds.{list_all-append}
-use Rattle.std.proofs.lemmas.List.Sums.{fold-append, sum_by-append}
-use Rattle.std.proofs.KnownBytes.{Appends-trans, Consumes-trans}
-use Rattle.std.specs.Io.KnownBytes.{Appends, Consumes, IsAtEnd}
-use Rattle.fh_base.specs.Ends.{plain_code}
+use Rattle.std.proofs.lemmas.List.Sums.{fold-append}
+use Rattle.std.proofs.KnownBytes.{Appends-nil, Appends-trans, Consumes-nil, Consumes-trans}
+use Rattle.std.specs.Io.KnownBytes.{Appends}
 use Rattle.fh_base.specs.declared.ends.PlainEnd.{PlainEnd}
 use Rattle.fh_base.specs.declared.ends.PlainEnd.TheVariants.{Finished, ReadFault, DiskFault, WriteFault, LongLine, NoMemory}
 use Rattle.fh_base.specs.declared.source.Source.{Ghosts as SourceGhosts}
 use Rattle.fh_base.specs.declared.sink.Sink.{Ghosts as SinkGhosts}
+use Rattle.fh_disk.specs.Moments.{LeavesOnly}
 use Rattle.fh_disk.specs.declared.disk.Disk.{Ghosts}
+use Rattle.fh_journal.specs.Keeping.{StaysTold}
 use Rattle.fh_hub.specs.Hub.{LeavesSince, StandsForHistory}
 use Rattle.fh_hub.specs.Replay.{Entry, replay}
-use Rattle.fh_hub.specs.State.{world_of}
+use Rattle.fh_hub.specs.State.{HubState, IsFaithful, world_of}
 use Rattle.fh_hub.specs.World.{World}
 use Rattle.fh_script.specs.declared.answerer.Answerer.{Answerer}
-use Rattle.fh_script.specs.Answerer.{HasDone, LacksMemory, StandsEither, StaysToldIn, done_in}
-use Rattle.fh_script.specs.Lines.{CountsRead, EndsAt, FindsLine, IsFirstLine, Took, line_feeds, line_length, lines}
-use Rattle.fh_script.specs.Machine.{Done, State, after_line, answer_line, opening_in, printed, run}
-use Rattle.fh_script.specs.Outside.{Counts, Imaging, Outside, crash_of}
+use Rattle.fh_script.specs.Answerer.{HasDone, HoldsIn, LacksMemory, StandsEither, StaysToldIn, done_in}
+use Rattle.fh_script.specs.Lines.{EndsAt, FindsLine, IsFirstLine, Took, line_feeds, line_length}
+use Rattle.fh_script.specs.Machine.{Done, State, after_line, opening_in, printed, run}
+use Rattle.fh_script.specs.Outside.{Counts, Imaging, Outside, crash_of, outside_of}
 use Rattle.fh_script.specs.Running.{EndsWith, Running, RunsOn, outside_in}
-use Rattle.fh_script.specs.Script.{Answered, HasPlainReason, Ran, Reads, StandsForPart, is_short_line, joined, with_line}
-use Rattle.fh_script.proofs.Crashes.{more_images, stands, stays_told}
+use Rattle.fh_script.specs.Script.{HasPlainReason, Ran, Reads, StandsForPart, is_short_line, joined, with_line}
+use Rattle.fh_script.proofs.Crashes.{more_images, mounted_images, stands, stays_told}
 use Rattle.fh_script.proofs.LineReading.{line_feeds-append}
 
 short-push : (done : List (List ℕ)) (line : List ℕ) → list_all is_short_line done ≡ true → line_length line ≤ 140000
@@ -35,11 +36,7 @@ short-push done line short fits =
 reads-push : (was mid now : Option (List ℕ)) (done : List (List ℕ)) (line : List ℕ) → Reads was mid done
     → IsFirstLine mid now line
     → Reads was now (done ++ line ∷ [])
-reads-push None mid now done line one two = tt
-reads-push (Some a) None now done line one two = absurd one
-reads-push (Some a) (Some b) None done line one two = absurd two
-reads-push (Some a) (Some b) (Some d) done line one two =
-    one ∙ ap (λ (l : List (List ℕ)). done ++ l) two ∙ sym (append_assoc done (line ∷ []) (lines d))
+reads-push was mid now done line one two = grind (arith, append_assoc)
 
 joined-push : (done : List (List ℕ)) (line : List ℕ) → joined (done ++ line ∷ []) ≡ joined done ++ line
 joined-push done line = simp (flat_map-append, append-nil)
@@ -56,8 +53,7 @@ feeds-push done line feeds one = rw (joined-push done line)
 -- told bytes that stand for one of two histories
 one_of_two : (told : Option (List ℕ)) (A B : List ℕ → Type 0) → IfSome told (λ file. A file ⊎ B file)
     → IfSome told A ⊎ IfSome told B
-one_of_two None A B either = inl tt
-one_of_two (Some file) A B either = either
+one_of_two told A B either = grind arith
 
 module _ {was now : Outside} {leaves : Imaging} {world : World} {moment : ℕ} {history : List Entry}
     (it : Running was now leaves world moment history) (left : Option (List ℕ)) (reads : ℕ) where
@@ -208,4 +204,38 @@ counts_on one two = record {
   reading = rw one.reading at two.reading;
   disk = rw one.disk at two.disk;
   writing = rw one.writing at two.writing;
+}
+
+reads-nothing : (left : Option (List ℕ)) → Reads left left []
+reads-nothing left = grind arith
+
+-- a run begins behind a mount
+pub begins : {A B D : Type 0} {J : Ghosts D} (S : SourceGhosts A) (O : SinkGhosts B) (source : A) (sink : B) (first disk : D)
+    (state : HubState) (answerer : Answerer D J) → answerer.hub.state ≡ state → answerer.now ≡ 0
+    → answerer.hub.journal.disk.now ≡ disk → HoldsIn answerer.hub → IsFaithful state
+    → IfSome (J.told first) (StandsForHistory state.history) → StaysTold (J.told first) (J.told disk)
+    → IfSome (J.told first) (λ file. StandsForHistory state.history file
+    → LeavesOnly J.moment J.left_since first disk (λ c. J.may_leave first c ⊎ StandsForHistory state.history c))
+    → RunsOn S O (outside_of S O J source sink first) first source sink answerer
+begins {J = J} S O source sink first disk state answerer state_is at_once disk_is holds faithful stood told leaves = record {
+  run = record {
+    lines = record {
+      opening = state.history;
+      legal = faithful.legal;
+      stood = stood;
+      done = [];
+      read = reads-nothing (S.left source);
+      consumed = Consumes-nil (S.left source);
+      short = refl;
+      texts = Appends-nil (O.written sink);
+    };
+    entries = [];
+    texts = [];
+    comes = rw (state_is, at_once, faithful.world) refl;
+    longer = rw state_is (sym (append-nil state.history));
+    stands = stands holds;
+    images = rw disk_is (mounted_images J first disk state.history leaves stood);
+  };
+  feeds = refl;
+  told = rw disk_is told;
 }

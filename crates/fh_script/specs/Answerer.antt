@@ -1,13 +1,10 @@
 -- What a line does to a hub and the moment that lines hand in.
-use Rattle.std.specs.Prelude.{◌≡◌, ◌⊎◌, ℕ, false, List, [], ◌++◌, Option, Some, IfSome, Result, Ok, Err, string_bytes}
+use Rattle.std.specs.Prelude.{◌≡◌, ◌⊎◌, ℕ, false, List, [], ◌++◌, Option, Some, Result, Ok, Err, string_bytes}
 use Rattle.std.specs.declared.string.String.{String}
 use Rattle.std.specs.declared.alloc.Global.{Global}
 use Rattle.fh_base.specs.Faults.{Rose}
 use Rattle.fh_disk.specs.declared.disk.Disk.{Ghosts}
 use Rattle.fh_event.specs.declared.command.Command.{Command}
-use Rattle.fh_event.specs.declared.faults.StepFault.{StepFault}
-use Rattle.fh_event.specs.declared.faults.StepFault.TheVariants.{Rule, NoMemory, DiskFault}
-use Rattle.fh_event.specs.declared.reply.Reply.{Reply}
 use Rattle.fh_journal.specs.Keeping.{Keeps, StaysTold}
 use Rattle.fh_hub.specs.declared.hub.Hub.{Hub}
 use Rattle.fh_hub.specs.Hub.{StandsForHistory}
@@ -16,7 +13,7 @@ use Rattle.fh_hub.specs.State.{world_of}
 use Rattle.fh_script.specs.declared.answerer.Answerer.{Answerer}
 use Rattle.fh_script.specs.declared.faults.AnswerFault.{AnswerFault}
 use Rattle.fh_script.specs.declared.faults.AnswerFault.TheVariants as answers
-use Rattle.fh_script.specs.Machine.{Done, answer_line, make_step, printed, text_of_answer}
+use Rattle.fh_script.specs.Machine.{Done, answer_line, make_step, printed}
 
 -- where the bytes are told, they and each image stand for this history
 abbrev pub Holds : Option (List ℕ) → (List ℕ → Type 0) → List Entry → ℕ → Type 0

@@ -9,6 +9,7 @@ const LINE_FEED: u8 = b'\n';
 
 /// Reads the next line into the buffer, with its line feed, and says how the lines end where there is none.
 /// A last line without a line feed counts where it isn't empty.
+#[tactic(auto, using(crate::proofs::LineReading::reading))]
 pub(crate) fn read_line<S: Source>(source: &mut S, line: &mut Vec<u8>) -> Option<PlainEnd>
     ensures read { IfNone result (FindsLine (S.left source.old) (S.left source.new) line.new.items) }
     ensures ends { IfSome result (EndsAt (S.left source.old) (S.left source.new)) }

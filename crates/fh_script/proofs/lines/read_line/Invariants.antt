@@ -1,10 +1,12 @@
 use Rattle.std.proofs.Common.{◌≡◌, ◌≤◌, ◌+◌, length}
-use Rattle.fh_script.proofs.LineReading.{Begun}
+use Rattle.std.specs.Io.KnownBytes.{Consumes}
+use Rattle.fh_script.specs.Lines.{line_feeds}
 use Rattle.fh_script.proofs.lines.read_line.Given as goal
 
 abbrev pub invariant-loop-byte : goal.invariant-loop-byte
 invariant-loop-byte g l = record {
-  begun : Begun (g.S.Source.left l.initial.source) (g.S.Source.left l.source) l.line.items;
+  read : Consumes (g.S.Source.left l.initial.source) (g.S.Source.left l.source) l.line.items;
+  plain : line_feeds l.line.items ≡ 0;
   short : length l.line.items ≤ 140000;
   most : length l.line.items + g.S.Source.most l.source ≤ g.S.Source.most l.initial.source;
   count : g.S.Source.read_faults l.source ≡ g.S.Source.read_faults l.initial.source;

@@ -1,4 +1,4 @@
-use Rattle.std.proofs.Common.{◌∙◌, refl, sym}
+use Rattle.std.proofs.Common.{◌∙◌, sym}
 use Rattle.std.proofs.KnownBytes.{Consumes-nil}
 use Rattle.fh_base.specs.declared.ends.PlainEnd.TheVariants.{Finished}
 use Rattle.fh_script.specs.Lines.{FindsLine}

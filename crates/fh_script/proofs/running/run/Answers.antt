@@ -2,7 +2,7 @@ use Rattle.std.proofs.Common.{rules, subst}
 use Rattle.fh_script.specs.Outside.{crash_of, outside_of}
 use Rattle.fh_script.specs.Script.{HasPlainReason, SurvivesCrash}
 use Rattle.fh_script.proofs.Crashes.{survives}
-use Rattle.fh_script.proofs.Mounting.{begins}
+use Rattle.fh_script.proofs.Turning.{begins}
 use Rattle.fh_script.proofs.running.run.Goals as goal
 
 pub returns-clause-reason : goal.returns-clause-reason

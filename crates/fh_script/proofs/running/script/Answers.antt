@@ -1,7 +1,4 @@
-use Rattle.std.proofs.Common.{◌==◌, Result, Ok, Err, ap, arith}
-use Rattle.fh_base.specs.declared.ends.PlainEnd.{PlainEnd}
-use Rattle.fh_hub.specs.declared.faults.HubFault.{HubFault}
-use Rattle.fh_script.specs.Ends.{code_of}
+use Rattle.std.proofs.Common.{Ok, Err, arith}
 use Rattle.std.proofs.lemmas.Grind.{common_steps}
 use Rattle.fh_script.proofs.running.script.Goals as goal
 
