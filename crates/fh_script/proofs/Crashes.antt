@@ -1,29 +1,39 @@
 -- What a crash leaves of a run's journal, and what its bytes stand for.
-use Rattle.std.proofs.Common.{◌≡◌, ◌⊎◌, inl, inr, ⊎_elim, ℕ, ◌≤◌, false, List, [], ◌++◌, Option, Some, None, IfSome, refl, sym, subst, append_assoc, append-nil, arith}
+use Rattle.std.proofs.Common.{◌≡◌, ◌⊎◌, inl, inr, ⊎_elim, ℕ, ◌≤◌, false, List, [], ◌++◌, Option, Some, IfSome, refl, sym, subst, append_assoc, append-nil, arith}
 use Rattle.std.proofs.lemmas.Option.{IfSome_then}
 use Rattle.fh_disk.specs.Moments.{LeavesOnly}
 use Rattle.fh_disk.specs.declared.disk.Disk.{Ghosts}
 use Rattle.fh_journal.specs.Journal.{IsJournalOf}
 use Rattle.fh_journal.specs.Keeping.{StaysTold}
-use Rattle.fh_journal.proofs.Moments.{joins, where_both, widens}
-use Rattle.fh_journal.proofs.Readings.{journal_once}
 use Rattle.fh_hub.specs.Hub.{KeepsIn, LeavesSince, MayStandFor, StandsForHistory}
 use Rattle.fh_hub.specs.declared.hub.Hub.{Hub}
 use Rattle.fh_hub.specs.History.{entry_of}
-use Rattle.fh_hub.specs.Replay.{Entry, payloads_of}
+use Rattle.fh_hub.specs.Replay.{Entry}
 use Rattle.fh_script.specs.Answerer.{HoldsIn, StandsEither}
 use Rattle.fh_script.specs.Outside.{crash_of}
 use Rattle.fh_script.specs.Script.{StandsForPart, SurvivesCrash}
+
+module _ {D : Type 0} (J : Ghosts D) where
+  -- two runs of calls, one behind the other
+  joins : (old mid new : D) (P Q R : List ℕ → Type 0) → LeavesOnly J.moment J.left_since old mid P
+      → LeavesOnly J.moment J.left_since mid new Q
+      → ((c : List ℕ) → P c → R c) → ((c : List ℕ) → Q c → R c) → LeavesOnly J.moment J.left_since old new R
+  joins old mid new P Q R first second p q = grind arith
+
+  widens : (old new : D) (P Q : List ℕ → Type 0) → LeavesOnly J.moment J.left_since old new P
+      → ((c : List ℕ) → P c → Q c) → LeavesOnly J.moment J.left_since old new Q
+  widens old new P Q only wider = grind arith
 
 module _ {D : Type 0} {J : Ghosts D} {hub : Hub D J} (holds : HoldsIn hub) where
   pub stands : IfSome (J.told hub.journal.disk.now) (StandsForHistory hub.state.history)
   stands = IfSome_then (J.told hub.journal.disk.now) holds.keeps (λ file each. inr (hub.journal.gate, each.as_read))
 
-  -- what the file stands for, each image stands for too
-  pub survives : SurvivesCrash (J.told hub.journal.disk.now) (J.may_leave hub.journal.disk.now)
-  survives = IfSome_then (J.told hub.journal.disk.now) holds.keeps (λ file each other c stands left.
-      subst (IsJournalOf c)
-      (journal_once file (payloads_of hub.state.history) (payloads_of other) (inr (hub.journal.gate, each.as_read)) stands)
+  -- what the file stands for, each image stands for too, since a file is a journal of one list of payloads
+  pub survives : ((file : List ℕ) (payloads others : List (List ℕ)) → IsJournalOf file payloads
+      → IsJournalOf file others → payloads ≡ others)
+      → SurvivesCrash (J.told hub.journal.disk.now) (J.may_leave hub.journal.disk.now)
+  survives once = IfSome_then (J.told hub.journal.disk.now) holds.keeps (λ file each other c stands left.
+      subst (IsJournalOf c) (once file _ _ (inr (hub.journal.gate, each.as_read)) stands)
       (inr (hub.journal.gate, each.after_crash c left)))
 
   -- whatever entry may have failed, since none did
@@ -56,8 +66,9 @@ module _ {D : Type 0} {J : Ghosts D} {old : Hub D J} (holds : HoldsIn old) (new 
       → LeavesSince old new (StandsEither old.state.history entries)
   leaves_either entries leaves =
       IfSome_then (J.told old.journal.disk.now) (leaves (entry_of []) (kept holds (entry_of []))) (λ file only.
-      widens J.moment J.left_since _ _ _ _ only
-      (λ c. ⊎_elim (λ before. inl before) (⊎_elim (λ behind. inr behind) (λ broken. absurd (cc (broken.0, holds.whole))))))
+      widens J _ _ _ _ only
+      (λ c. ⊎_elim (λ before. inl before)
+      (⊎_elim (λ behind. inr behind) (λ broken. absurd (cc (broken.0, holds.whole))))))
 
 part_of_either : (opening behind entries : List Entry) (c : List ℕ) → StandsEither (opening ++ behind) entries c
     → StandsForPart opening (behind ++ entries) c
@@ -84,6 +95,10 @@ where_told : (told : Option (List ℕ)) (P Q R : List ℕ → Type 0) → IfSome
     → ((file : List ℕ) → P file → Q file → R file) → IfSome told R
 where_told told P Q R one two then = grind arith
 
+where_both : (told now : Option (List ℕ)) (A B C : Type 0) → StaysTold told now → IfSome told (λ _. A)
+    → IfSome now (λ _. B) → (A → B → C) → IfSome told (λ _. C)
+where_both told now A B C stays one two then = grind arith
+
 module _ {D : Type 0} (J : Ghosts D) where
   abbrev Leaves : D → D → (List ℕ → Type 0) → Type 0
   Leaves old new P = IfSome (J.told old) (λ _. LeavesOnly J.moment J.left_since old new P)
@@ -93,13 +108,7 @@ module _ {D : Type 0} (J : Ghosts D) where
       → ((disk : D) (c : List ℕ) → J.told disk ≡ Some c → J.may_leave disk c)
       → ((disk : D) (t : ℕ) (c : List ℕ) → t ≤ J.moment disk → J.may_leave disk c → J.left_since disk t c)
       → StaysTold (J.told old) (J.told new) → Leaves old new P → IfSome (J.told new) P
-  told_is_left old new P reads counts = of_told (J.told old) (J.told new) refl
-    where
-      of_told : (was now : Option (List ℕ)) → J.told new ≡ now → StaysTold was now
-          → IfSome was (λ _. LeavesOnly J.moment J.left_since old new P) → IfSome now P
-      of_told None now is stays leaves = rw stays tt
-      of_told (Some a) None is stays leaves = tt
-      of_told (Some a) (Some b) is stays leaves = leaves.each b (counts new (J.moment old) b leaves.later (reads new b is))
+  told_is_left old new P reads counts stays leaves = grind arith
 
   -- one line more
   pub more_images : (first mid new : D) (opening behind entries : List Entry) → StaysTold (J.told first) (J.told mid)
@@ -107,7 +116,7 @@ module _ {D : Type 0} (J : Ghosts D) where
       → crash_of J first new (StandsForPart opening (behind ++ entries))
   more_images first mid new opening behind entries stays before line =
       where_both (J.told first) (J.told mid) _ _ _ stays before line
-      (λ one two. joins J.moment J.left_since first mid new _ _ _ one two
+      (λ one two. joins J first mid new _ _ _ one two
       (λ c. ⊎_elim (λ a. inl a) (λ it. inr (part_grows opening behind entries c it)))
       (λ c now. inr (part_of_either opening behind entries c now)))
 
@@ -118,7 +127,7 @@ module _ {D : Type 0} (J : Ghosts D) where
       → IfSome (J.told first) (StandsForHistory opening) → crash_of J first mid (StandsForPart opening [])
   mounted_images first mid opening leaves stood =
       where_told (J.told first) _ _ _ leaves stood (λ file leaves stood.
-      widens J.moment J.left_since first mid _ _ (leaves stood)
+      widens J first mid _ _ (leaves stood)
       (λ c. ⊎_elim (λ a. inl a) (λ b. inr (record { front = []; rest = []; whole = refl; stands = rw append-nil b }))))
 
 -- bytes that are told stay told

@@ -1,5 +1,5 @@
 -- What a line that was read leaves of a source.
-use Rattle.std.proofs.Common.{if◌then◌else◌, ◌≡◌, ℕ, ◌+◌, ◌-◌, ◌≤◌, Bool, true, false, cond, List, [], ◌∷◌, ◌++◌, length, take, Option, Some, None, refl, ◌∙◌, ap, arith}
+use Rattle.std.proofs.Common.{if◌then◌else◌, ◌≡◌, ℕ, ◌+◌, ◌-◌, ◌≤◌, true, false, cond, List, [], ◌∷◌, ◌++◌, length, take, Option, Some, None, refl, ap, arith}
 use Rattle.std.proofs.KnownBytes.{Consumes-trans}
 use Rattle.std.specs.List.{list_all}
 use Rattle.std.proofs.lemmas.Bool.{leb-true}
@@ -20,7 +20,8 @@ plain_parts b line plain =
     let one : line_feeds (b ∷ []) ≡ 0 = omega (arith, apart, plain) in
     (grind (arith, nat_tests), omega (arith, apart, plain))
 
-pub lines-ended : (line rest : List ℕ) → line_feeds line ≡ 0 → lines (line ++ 10 ∷ rest) ≡ (line ++ 10 ∷ []) ∷ lines rest
+pub lines-ended : (line rest : List ℕ) → line_feeds line ≡ 0
+    → lines (line ++ 10 ∷ rest) ≡ (line ++ 10 ∷ []) ∷ lines rest
 lines-ended [] rest plain = refl
 lines-ended (b ∷ line) rest plain =
     let parts = plain_parts b line plain in rw parts.0 (ap (before_lines b) (lines-ended line rest parts.1))
@@ -52,12 +53,11 @@ in_front b (line ∷ more) = refl
 
 line_length-first_of : (bytes : List ℕ) → line_length (first_of (lines bytes)) ≡ line_length bytes
 line_length-first_of [] = refl
-line_length-first_of (b ∷ rest) = by_cases (is_line_feed b) refl (line_length-first_of rest)
+line_length-first_of (b ∷ rest) = one_more (line_length-first_of rest)
   where
-    by_cases : (f : Bool) → is_line_feed b ≡ f → line_length (first_of (lines rest)) ≡ line_length rest
+    one_more : line_length (first_of (lines rest)) ≡ line_length rest
         → line_length (first_of (lines (b ∷ rest))) ≡ line_length (b ∷ rest)
-    by_cases true feed behind = rw feed (rw feed refl)
-    by_cases false plain behind = rw plain (in_front b (lines rest) ∙ rw plain (ap (λ (n : ℕ). n + 1) behind))
+    one_more behind = grind (arith, nat_tests, in_front)
 
 first_short : (done l : List (List ℕ)) → list_all is_short_line (done ++ l) ≡ true → line_length (first_of l) ≤ 140000
 first_short done l short = grind (arith, common_steps, leb-true)

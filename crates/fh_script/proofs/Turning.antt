@@ -16,7 +16,7 @@ use Rattle.fh_disk.specs.declared.disk.Disk.{Ghosts}
 use Rattle.fh_journal.specs.Keeping.{StaysTold}
 use Rattle.fh_hub.specs.Hub.{LeavesSince, StandsForHistory}
 use Rattle.fh_hub.specs.Replay.{Entry, replay}
-use Rattle.fh_hub.specs.State.{HubState, IsFaithful, world_of}
+use Rattle.fh_hub.specs.State.{IsFaithful, world_of}
 use Rattle.fh_hub.specs.World.{World}
 use Rattle.fh_script.specs.declared.answerer.Answerer.{Answerer}
 use Rattle.fh_script.specs.Answerer.{HasDone, HoldsIn, LacksMemory, StandsEither, StaysToldIn, done_in}
@@ -34,9 +34,11 @@ short-push done line short fits =
     rw (list_all-append is_short_line done (line ∷ []), short, le-leb (line_length line) 140000 fits) refl
 
 reads-push : (was mid now : Option (List ℕ)) (done : List (List ℕ)) (line : List ℕ) → Reads was mid done
-    → IsFirstLine mid now line
-    → Reads was now (done ++ line ∷ [])
+    → IsFirstLine mid now line → Reads was now (done ++ line ∷ [])
 reads-push was mid now done line one two = grind (arith, append_assoc)
+
+reads-nothing : (left : Option (List ℕ)) → Reads left left []
+reads-nothing left = grind arith
 
 joined-push : (done : List (List ℕ)) (line : List ℕ) → joined (done ++ line ∷ []) ≡ joined done ++ line
 joined-push done line = simp (flat_map-append, append-nil)
@@ -85,9 +87,9 @@ module _ {was now : Outside} {leaves : Imaging} {world : World} {moment : ℕ} {
   stops _ ends feeds = absurd ends
 
 -- A line was read, and perhaps done.
-module _ {A B D : Type 0} {J : Ghosts D} {S : SourceGhosts A} {O : SinkGhosts B} {was : Outside} {first : D} {source : A}
-    {sink : B} {old : Answerer D J} (it : RunsOn S O was first source sink old) (next : A) (new : Answerer D J)
-    (line : List ℕ) (found : FindsLine (S.left source) (S.left next) line)
+module _ {A B D : Type 0} {J : Ghosts D} {S : SourceGhosts A} {O : SinkGhosts B} {was : Outside} {first : D}
+    {source : A} {sink : B} {old : Answerer D J} (it : RunsOn S O was first source sink old) (next : A)
+    (new : Answerer D J) (line : List ℕ) (found : FindsLine (S.left source) (S.left next) line)
     (moves : LeavesSince old.hub new.hub (StandsEither old.hub.state.history (done_in old line).entries)) where
   abbrev now_disk : D
   now_disk = new.hub.journal.disk.now
@@ -98,8 +100,11 @@ module _ {A B D : Type 0} {J : Ghosts D} {S : SourceGhosts A} {O : SinkGhosts B}
   abbrev does : Done
   does = done_in old line
 
-  abbrev Stands : List Entry → Type 0
-  Stands h = IfSome (J.told now_disk) (StandsForHistory h)
+  -- the run as it stands behind the line, in front of its answer
+  abbrev RanLine : B → Option (List ℕ) → Type 0
+  RanLine now_sink =
+      Ran was (record (outside_in S O next now_sink new) { written = O.written sink }) (crash_of J first now_disk)
+      (Some line)
 
   after : run opening (it.run.lines.done ++ line ∷ []) ≡ record {
     world = does.world;
@@ -113,17 +118,18 @@ module _ {A B D : Type 0} {J : Ghosts D} {S : SourceGhosts A} {O : SinkGhosts B}
   grown = ap (λ (h : List Entry). h ++ does.entries) it.run.longer ∙ append_assoc opening it.run.entries does.entries
 
   images : crash_of J first now_disk (StandsForPart opening (it.run.entries ++ does.entries))
-  images = more_images J first old.hub.journal.disk.now now_disk opening it.run.entries does.entries it.told it.run.images
+  images =
+      more_images J first old.hub.journal.disk.now now_disk opening it.run.entries does.entries it.told it.run.images
       (rw it.run.longer at moves)
 
   took_line : Took (S.left source) (S.left next)
   took_line = record { taken = line; consumed = found.consumed; few = found.stored }
 
-  ran_line : (now_sink : B) (made : Option (List ℕ))
-      → Stands (opening ++ (run opening (with_line it.run.lines.done made)).entries)
-      → Ran was (record (outside_in S O next now_sink new) { written = O.written sink }) (crash_of J first now_disk) (Some line) made
+  ran_line : (now_sink : B) (did : Option (List ℕ))
+      → IfSome (J.told now_disk) (StandsForHistory (opening ++ (run opening (with_line it.run.lines.done did)).entries))
+      → RanLine now_sink did
   unfolding took_line
-  ran_line now_sink made stands = record {
+  ran_line now_sink did stands = record {
     left = S.left source;
     lines = it.run.lines;
     took = took_line;
@@ -132,22 +138,24 @@ module _ {A B D : Type 0} {J : Ghosts D} {S : SourceGhosts A} {O : SinkGhosts B}
     images = rw after images;
   }
 
-  made_line : (now_sink : B) → Stands (old.hub.state.history ++ does.entries)
-      → Ran was (record (outside_in S O next now_sink new) { written = O.written sink }) (crash_of J first now_disk) (Some line) (Some line)
+  made_line : (now_sink : B) → IfSome (J.told now_disk) (StandsForHistory (old.hub.state.history ++ does.entries))
+      → RanLine now_sink (Some line)
   made_line now_sink stands = ran_line now_sink (Some line) (rw (after, ← grown) stands)
 
   pub disk_fails : IfSome (J.told now_disk) (StandsEither old.hub.state.history does.entries)
       → EndsWith S O was first next sink new DiskFault
   disk_fails either = (
     line,
-    ⊎_elim (λ before. inl (ran_line sink None (rw (it.run.comes, ← it.run.longer) before))) (λ made. inr (made_line sink made))
+    ⊎_elim (λ before. inl (ran_line sink None (rw (it.run.comes, ← it.run.longer) before)))
+        (λ made. inr (made_line sink made))
         (one_of_two (J.told now_disk) (StandsForHistory old.hub.state.history)
         (StandsForHistory (old.hub.state.history ++ does.entries)) either),
   )
 
   pub unanswered : LacksMemory old new does.entries → EndsWith S O was first next sink new NoMemory
   unanswered lacks =
-      ⊎_elim (λ same. rw same.0 (stops it.run (S.left next) (S.read_faults next) NoMemory took_line (λ read. absurd (cc read))))
+      ⊎_elim
+      (λ same. rw same.0 (stops it.run (S.left next) (S.read_faults next) NoMemory took_line (λ is. absurd (cc is))))
       (λ made. inr (line, made_line sink (rw made at (stands lacks.holds)))) lacks.made
 
   module _ (text : List ℕ) (done : HasDone old new does text) (now_sink : B) where
@@ -165,7 +173,8 @@ module _ {A B D : Type 0} {J : Ghosts D} {S : SourceGhosts A} {O : SinkGhosts B}
     }
 
     pub goes_on : Appends (O.written sink) (O.written now_sink) text
-        → Running was (outside_in S O next now_sink new) (crash_of J first now_disk) (world_of new.hub.state) new.now new.hub.state.history
+        → Running was (outside_in S O next now_sink new) (crash_of J first now_disk)
+        (world_of new.hub.state) new.now new.hub.state.history
     goes_on writes = record {
       lines = record {
         opening = opening;
@@ -179,7 +188,8 @@ module _ {A B D : Type 0} {J : Ghosts D} {S : SourceGhosts A} {O : SinkGhosts B}
         short = short-push it.run.lines.done line it.run.lines.short found.short;
         texts =
             rw (after, ← done.answer)
-            (Appends-trans was.written (O.written sink) (O.written now_sink) _ text (rw it.run.comes at it.run.lines.texts) writes);
+            (Appends-trans was.written (O.written sink) (O.written now_sink) _ text
+            (rw it.run.comes at it.run.lines.texts) writes);
       };
       entries = it.run.entries ++ does.entries;
       texts = it.run.texts ++ printed does.text;
@@ -206,21 +216,19 @@ counts_on one two = record {
   writing = rw one.writing at two.writing;
 }
 
-reads-nothing : (left : Option (List ℕ)) → Reads left left []
-reads-nothing left = grind arith
-
 -- a run begins behind a mount
-pub begins : {A B D : Type 0} {J : Ghosts D} (S : SourceGhosts A) (O : SinkGhosts B) (source : A) (sink : B) (first disk : D)
-    (state : HubState) (answerer : Answerer D J) → answerer.hub.state ≡ state → answerer.now ≡ 0
-    → answerer.hub.journal.disk.now ≡ disk → HoldsIn answerer.hub → IsFaithful state
-    → IfSome (J.told first) (StandsForHistory state.history) → StaysTold (J.told first) (J.told disk)
-    → IfSome (J.told first) (λ file. StandsForHistory state.history file
-    → LeavesOnly J.moment J.left_since first disk (λ c. J.may_leave first c ⊎ StandsForHistory state.history c))
+pub begins : {A B D : Type 0} {J : Ghosts D} (S : SourceGhosts A) (O : SinkGhosts B) (source : A) (sink : B) (first : D)
+    (answerer : Answerer D J) → answerer.now ≡ 0 → HoldsIn answerer.hub → IsFaithful answerer.hub.state
+    → IfSome (J.told first) (StandsForHistory answerer.hub.state.history)
+    → StaysTold (J.told first) (J.told answerer.hub.journal.disk.now)
+    → IfSome (J.told first) (λ file. StandsForHistory answerer.hub.state.history file
+    → LeavesOnly J.moment J.left_since first answerer.hub.journal.disk.now
+    (λ c. J.may_leave first c ⊎ StandsForHistory answerer.hub.state.history c))
     → RunsOn S O (outside_of S O J source sink first) first source sink answerer
-begins {J = J} S O source sink first disk state answerer state_is at_once disk_is holds faithful stood told leaves = record {
+begins {J = J} S O source sink first answerer at_once holds faithful stood told leaves = record {
   run = record {
     lines = record {
-      opening = state.history;
+      opening = answerer.hub.state.history;
       legal = faithful.legal;
       stood = stood;
       done = [];
@@ -231,11 +239,11 @@ begins {J = J} S O source sink first disk state answerer state_is at_once disk_i
     };
     entries = [];
     texts = [];
-    comes = rw (state_is, at_once, faithful.world) refl;
-    longer = rw state_is (sym (append-nil state.history));
+    comes = rw (at_once, faithful.world) refl;
+    longer = sym (append-nil answerer.hub.state.history);
     stands = stands holds;
-    images = rw disk_is (mounted_images J first disk state.history leaves stood);
+    images = mounted_images J first answerer.hub.journal.disk.now answerer.hub.state.history leaves stood;
   };
   feeds = refl;
-  told = rw disk_is told;
+  told = told;
 }

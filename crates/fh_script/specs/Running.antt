@@ -15,9 +15,10 @@ use Rattle.fh_script.specs.Machine.{run}
 use Rattle.fh_script.specs.Outside.{Imaging, Outside, crash_of, outside_of}
 use Rattle.fh_script.specs.Script.{Answered, HasPlainReason, StandsForPart, joined}
 
--- What the answered lines of a run come to: this world, this moment and this history, for which the journal stands, also
--- after a crash.
-pub record Running (was now : Outside) (leaves : Imaging) (world : World) (moment : ℕ) (history : List Entry) : Type 0 where
+-- What the answered lines of a run come to: this world, this moment and this history, for which the journal stands,
+-- also after a crash.
+pub record Running (was now : Outside) (leaves : Imaging) (world : World) (moment : ℕ)
+    (history : List Entry) : Type 0 where
   pub lines : Answered was now.left now.written
   pub entries : List Entry
   pub texts : List ℕ

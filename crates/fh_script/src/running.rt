@@ -14,6 +14,7 @@ use crate::lines::read_line;
 use fh_base::{PlainEnd, Sink, Source, Status, write_all, write_last_line};
 use fh_disk::Disk;
 use fh_hub::{HubFault, prepare, write_unmounted};
+use fh_journal::files_have_one_reading;
 use std::alloc::Global;
 
 /// Answers the lines of the source in order over the journal, and writes each answer before the next
@@ -108,6 +109,7 @@ fn run<S: Source, O: Sink, J: Disk>(
     let mut answerer = Answerer::over(alloc, journal, state);
     let end = answer_lines(alloc, source, sink, &mut answerer);
     answerer.close();
+    files_have_one_reading();
     Ok(end)
 }
 

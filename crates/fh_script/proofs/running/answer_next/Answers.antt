@@ -7,7 +7,8 @@ use Rattle.fh_script.proofs.Turning.{cut_off, disk_fails, goes_on, next_line, st
 use Rattle.fh_script.proofs.running.answer_next.Goals as goal
 
 pub returns-in-Some-clause-goes : goal.returns-in-Some-clause-goes
-returns-in-Some-clause-goes g c = λ was first it. stops it.run _ _ c.in-Some.end c.in-Some.ensures.ends (λ read. it.feeds)
+returns-in-Some-clause-goes g c = λ was first it.
+    stops it.run _ _ c.in-Some.end c.in-Some.ensures.ends (λ is. it.feeds)
 
 pub returns-in-Err-DiskFault-clause-goes : goal.returns-in-Err-DiskFault-clause-goes
 returns-in-Err-DiskFault-clause-goes g c = λ was first it.
@@ -31,16 +32,20 @@ returns-in-Err-clause-goes g c = λ was first it.
 
 pub returns-then-not-ends_with-clause-goes : goal.returns-then-not-ends_with-clause-goes
 returns-then-not-ends_with-clause-goes g c = λ was first it.
-    let found : FindsLine (g.S.Source.left c.args.source.now) (g.S.Source.left c.read_line.new.source) c.as_slice-line.result.now =
+    let left = g.S.Source.left in
+    let found : FindsLine (left c.args.source.now) (left c.read_line.new.source) c.as_slice-line.result.now =
     rw c.as_slice-line.ensures.value c.in-None.ensures.read in
     let ended = found.ended (sym c.ends_with.ensures.value ∙ c.if-not-ends_with.true) in
-    stops (goes_on it c.read_line.new.source c.answer.new.self c.as_slice-line.result.now found c.answer.ensures.any_moment
-    c.as_bytes.result.now (rw c.as_bytes.ensures.value c.in-Ok.ensures.done) c.write_all.new.sink c.in-Ok-write_all.ensures.written)
-    _ _ Finished (record { was_ended = ended; ended = ended; consumed = Consumes-nil _ }) (λ read. absurd (cc read))
+    stops
+    (goes_on it c.read_line.new.source c.answer.new.self c.as_slice-line.result.now found c.answer.ensures.any_moment
+    c.as_bytes.result.now (rw c.as_bytes.ensures.value c.in-Ok.ensures.done) c.write_all.new.sink
+    c.in-Ok-write_all.ensures.written)
+    _ _ Finished (record { was_ended = ended; ended = ended; consumed = Consumes-nil _ }) (λ is. absurd (cc is))
 
 pub returns-clause-goes : goal.returns-clause-goes
 returns-clause-goes g c = λ was first it.
-    let found : FindsLine (g.S.Source.left c.args.source.now) (g.S.Source.left c.read_line.new.source) c.as_slice-line.result.now =
+    let left = g.S.Source.left in
+    let found : FindsLine (left c.args.source.now) (left c.read_line.new.source) c.as_slice-line.result.now =
     rw c.as_slice-line.ensures.value c.in-None.ensures.read in
     next_line it c.read_line.new.source c.answer.new.self c.as_slice-line.result.now found c.answer.ensures.any_moment
     c.as_bytes.result.now (rw c.as_bytes.ensures.value c.in-Ok.ensures.done) c.write_all.new.sink

@@ -16,11 +16,12 @@ returns-clause-reason g c =
     (crash_of g.J.Disk first d) c.answer_lines-end.result)
     (search rules)
     (c.answer_lines-end.ensures.ends was first
-    (begins g.S.Source g.O.Sink c.args.source.now c.args.sink.now first c.prepare.new.disk c.in-Ok.state c.over-answerer.result
-    over.state over.now over.disk (over.holds c.in-Ok.ensures.stands) c.in-Ok.ensures.faithful
-    c.in-Ok.ensures.stood c.prepare.ensures.told (c.prepare.ensures.same_history c.in-Ok.state.history)))
+    (begins g.S.Source g.O.Sink c.args.source.now c.args.sink.now first c.over-answerer.result over.now
+    (over.holds c.in-Ok.ensures.stands) (rw over.state c.in-Ok.ensures.faithful) (rw over.state c.in-Ok.ensures.stood)
+    (rw over.disk c.prepare.ensures.told)
+    (rw (over.state, over.disk) (c.prepare.ensures.same_history c.in-Ok.state.history))))
 
 pub returns-clause-durable : goal.returns-clause-durable
 returns-clause-durable g c = λ certain.
     subst (λ (d : g.row.J.Denot). SurvivesCrash (g.J.Disk.told d) (g.J.Disk.may_leave d)) (search rules)
-    (survives (c.answer_lines-end.ensures.holds certain))
+    (survives (c.answer_lines-end.ensures.holds certain) c.files_have_one_reading.ensures.journal)
