@@ -1,8 +1,5 @@
 pub mod LineReading
-pub mod Steps
-pub mod Imaging
+pub mod Crashes
 pub mod Turning
-pub mod Mounting
-pub mod Completing
 pub mod Decoding
 pub mod Printing

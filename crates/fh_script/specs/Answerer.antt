@@ -1,14 +1,11 @@
 -- What a line does to a hub and the moment that lines hand in.
-use Rattle.std.specs.Prelude.{◌≡◌, ◌⊎◌, ℕ, false, List, [], ◌++◌, Option, Some, IfSome, Result, Ok, Err, string_bytes}
+use Rattle.std.specs.Prelude.{◌≡◌, ◌⊎◌, ℕ, false, List, [], ◌++◌, Option, Some, Result, Ok, Err, string_bytes}
 use Rattle.std.specs.declared.string.String.{String}
 use Rattle.std.specs.declared.alloc.Global.{Global}
 use Rattle.fh_base.specs.Faults.{Rose}
+use Rattle.fh_disk.specs.Disk.{StaysTold}
 use Rattle.fh_disk.specs.declared.disk.Disk.{Ghosts}
 use Rattle.fh_event.specs.declared.command.Command.{Command}
-use Rattle.fh_event.specs.declared.faults.StepFault.{StepFault}
-use Rattle.fh_event.specs.declared.faults.StepFault.TheVariants.{Rule, NoMemory, DiskFault}
-use Rattle.fh_event.specs.declared.reply.Reply.{Reply}
-use Rattle.fh_disk.specs.Disk.{StaysTold}
 use Rattle.fh_journal.specs.Keeping.{Keeps}
 use Rattle.fh_hub.specs.declared.hub.Hub.{Hub}
 use Rattle.fh_hub.specs.Hub.{StandsForHistory}
@@ -17,16 +14,17 @@ use Rattle.fh_hub.specs.State.{world_of}
 use Rattle.fh_script.specs.declared.answerer.Answerer.{Answerer}
 use Rattle.fh_script.specs.declared.faults.AnswerFault.{AnswerFault}
 use Rattle.fh_script.specs.declared.faults.AnswerFault.TheVariants as answers
-use Rattle.fh_script.specs.Machine.{Done, answer_line, make_step, printed, text_of_answer}
+use Rattle.fh_script.specs.Machine.{Done, answer_line, make_step, printed}
 
 -- where the bytes are told, they and each image stand for this history
 abbrev pub Holds : Option (List ℕ) → (List ℕ → Type 0) → List Entry → ℕ → Type 0
 Holds told images history gate = Keeps told images false (payloads_of history) [] gate
 
--- the same of a hub
-abbrev pub HoldsIn : {D : Type 0} {J : Ghosts D} → Hub D J → Type 0
-HoldsIn {D} {J} hub = Holds (J.told hub.journal.disk.now)
-    (J.may_leave hub.journal.disk.now) hub.state.history hub.journal.gate
+-- the same of a hub, whose journal isn't torn
+pub record HoldsIn {D : Type 0} {J : Ghosts D} (hub : Hub D J) : Type 0 where
+  pub whole : hub.journal.torn ≡ false
+  pub keeps :
+      Holds (J.told hub.journal.disk.now) (J.may_leave hub.journal.disk.now) hub.state.history hub.journal.gate
 
 -- the file stands for this history, or for the one with these entries behind it
 abbrev pub StandsEither : List Entry → List Entry → List ℕ → Type 0
@@ -47,7 +45,6 @@ pub record HasDone {D : Type 0} {J : Ghosts D} (old new : Answerer D J) (does : 
   pub world : world_of new.hub.state ≡ does.world
   pub moment : new.now ≡ does.now
   pub history : new.hub.state.history ≡ old.hub.state.history ++ does.entries
-  pub whole : new.hub.journal.torn ≡ false
   pub holds : HoldsIn new.hub
 
 -- Memory was refused before the first call on the disk, or behind a step that was made. Either way the journal stands
@@ -57,12 +54,6 @@ pub record LacksMemory {D : Type 0} {J : Ghosts D} (old new : Answerer D J) (ent
   pub made :
       (new.hub.journal.disk.now ≡ old.hub.journal.disk.now) × (new.hub.state.history ≡ old.hub.state.history)
       ⊎ (new.hub.state.history ≡ old.hub.state.history ++ entries)
-
--- what the journal stands for where a line has no answer
-abbrev pub HasNoAnswer : {D : Type 0} {J : Ghosts D} → Answerer D J → Answerer D J → List Entry → AnswerFault → Type 0
-HasNoAnswer {D} {J} old new entries answers.DiskFault =
-    IfSome (J.told new.hub.journal.disk.now) (StandsEither old.hub.state.history entries)
-HasNoAnswer old new entries answers.NoMemory = LacksMemory old new entries
 
 -- a disk counts a fault where it failed, and nowhere else
 abbrev pub CountsAnswer : {T : Type 0} → ℕ → ℕ → Result T AnswerFault → Type 0
@@ -78,10 +69,3 @@ StaysToldIn {D} {J} old new = StaysTold (J.told old.hub.journal.disk.now) (J.tol
 abbrev pub IsText : Result (String Global) AnswerFault → List ℕ → Type 0
 IsText (Ok text) answer = string_bytes text ≡ printed (Some answer)
 IsText (Err fault) answer = fault ≡ answers.NoMemory
-
--- the text that answers a step
-abbrev pub TellsStep : Result Reply StepFault → Result (String Global) AnswerFault → Type 0
-TellsStep (Ok reply) told = IsText told (text_of_answer (Ok reply))
-TellsStep (Err (Rule rule)) told = IsText told (text_of_answer (Err rule))
-TellsStep (Err NoMemory) told = told ≡ Err answers.NoMemory
-TellsStep (Err DiskFault) told = told ≡ Err answers.DiskFault

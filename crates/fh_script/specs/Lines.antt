@@ -1,11 +1,12 @@
 -- The lines of a script, each with the bytes that end it, and what reading one takes from a source.
-use Rattle.std.specs.Prelude.{◌≡◌, ⊤, ℕ, ◌+◌, ◌-◌, ◌<◌, ◌≤◌, ◌==◌, nat_eq, List, [], ◌∷◌, length, take, if◌then◌else◌, Bool, true, false, Option, Some, None, Result, Ok, Err}
-use Rattle.std.specs.List.{ends_with}
+use Rattle.std.specs.Prelude.{◌≡◌, ⊤, ℕ, ◌+◌, ◌-◌, ◌<◌, ◌≤◌, ◌==◌, nat_eq, List, [], ◌∷◌, length, take, if◌then◌else◌, Bool, true, false, Option, Some, None, MatchBool}
+use Rattle.std.specs.List.{count_by, ends_with}
 use Rattle.std.specs.Io.KnownBytes.{Consumes, IsAtEnd}
 use Rattle.fh_base.specs.Faults.{Rose}
 use Rattle.fh_base.specs.Limits.{longest_line}
-use Rattle.fh_script.specs.declared.faults.LineFault.{LineFault}
-use Rattle.fh_script.specs.declared.faults.LineFault.TheVariants.{ReadFault, TooLong, NoMemory}
+use Rattle.fh_base.specs.declared.ends.PlainEnd.{PlainEnd}
+use Rattle.fh_base.specs.declared.ends.PlainEnd.TheVariants.{Finished, ReadFault, LongLine, NoMemory}
+use Rattle.fh_script.specs.Ends.{code_so_far}
 
 abbrev pub is_line_feed : ℕ → Bool
 is_line_feed b = b == 10
@@ -34,8 +35,7 @@ line_text line =
 
 -- how many line feeds these bytes have
 abbrev pub line_feeds : List ℕ → ℕ
-line_feeds [] = 0
-line_feeds (b ∷ rest) = if is_line_feed b then line_feeds rest + 1 else line_feeds rest
+line_feeds bytes = count_by is_line_feed bytes
 
 -- the line ends with a line feed
 abbrev pub is_ended : List ℕ → Bool
@@ -62,11 +62,6 @@ pub record FindsEnd (was now : Option (List ℕ)) : Type 0 where
   pub ended : IsAtEnd now
   pub consumed : Consumes was now []
 
--- a line was read, or there was none
-abbrev pub ReadsLine : Option (List ℕ) → Option (List ℕ) → List ℕ → Bool → Type 0
-ReadsLine was now line true = FindsLine was now line
-ReadsLine was now line false = FindsEnd was now
-
 -- where a source tells: its first line is too long
 abbrev pub StartsLong : Option (List ℕ) → Type 0
 StartsLong None = ⊤
@@ -83,15 +78,14 @@ pub record TookPart (was now : Option (List ℕ)) : Type 0 where
   pub took : Took was now
   pub part : line_feeds took.taken ≡ 0
 
--- why no line was read: the source failed, the line is too long, or memory was refused
-abbrev pub HasLineReason : Option (List ℕ) → Option (List ℕ) → LineFault → Type 0
-HasLineReason was now ReadFault = TookPart was now
-HasLineReason was now TooLong = StartsLong was × Took was now
-HasLineReason was now NoMemory = Took was now
+-- how lines end where none was read: nothing was left, the source failed, the line is too long, or memory was refused
+abbrev pub EndsAt : Option (List ℕ) → Option (List ℕ) → PlainEnd → Type 0
+EndsAt was now Finished = FindsEnd was now
+EndsAt was now ReadFault = TookPart was now
+EndsAt was now LongLine = StartsLong was × Took was now
+EndsAt was now NoMemory = Took was now
+EndsAt was now other = ⊥
 
 -- a source counts a fault where it failed, and nowhere else
-abbrev pub CountsRead : {T : Type 0} → ℕ → ℕ → Result T LineFault → Type 0
-CountsRead before now (Ok found) = now ≡ before
-CountsRead before now (Err ReadFault) = Rose before now
-CountsRead before now (Err TooLong) = now ≡ before
-CountsRead before now (Err NoMemory) = now ≡ before
+abbrev pub CountsRead : ℕ → ℕ → Option PlainEnd → Type 0
+CountsRead before now end = MatchBool (code_so_far end == 5) (Rose before now) (now ≡ before)

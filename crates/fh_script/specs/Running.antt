@@ -1,54 +1,47 @@
 -- A run between two lines, and one whose lines have ended.
-use Rattle.std.specs.Prelude.{◌≡◌, ℕ, Bool, true, false, ◌==◌, ◌||◌, ◌++◌, length}
-use Rattle.fh_base.specs.Ends.{plain_code}
+use Rattle.std.specs.Prelude.{◌≡◌, ℕ, List, ◌++◌, length, IfSome}
 use Rattle.fh_base.specs.declared.ends.PlainEnd.{PlainEnd}
 use Rattle.fh_base.specs.declared.source.Source.{Ghosts as SourceGhosts}
 use Rattle.fh_base.specs.declared.sink.Sink.{Ghosts as SinkGhosts}
 use Rattle.fh_disk.specs.declared.disk.Disk.{Ghosts}
 use Rattle.fh_disk.specs.Disk.{StaysTold}
+use Rattle.fh_hub.specs.Hub.{StandsForHistory}
+use Rattle.fh_hub.specs.Replay.{Entry}
 use Rattle.fh_hub.specs.State.{world_of}
+use Rattle.fh_hub.specs.World.{World}
 use Rattle.fh_script.specs.declared.answerer.Answerer.{Answerer}
-use Rattle.fh_script.specs.Answerer.{HoldsIn}
 use Rattle.fh_script.specs.Lines.{line_feeds}
 use Rattle.fh_script.specs.Machine.{run}
-use Rattle.fh_script.specs.Outside.{Counts, Outside, crash_of, outside_of}
-use Rattle.fh_script.specs.Script.{Answered, HasPlainReason, StandsForPart, SurvivesCrash, is_certain, joined}
+use Rattle.fh_script.specs.Outside.{Imaging, Outside, crash_of, outside_of}
+use Rattle.fh_script.specs.Script.{Answered, HasPlainReason, StandsForPart, joined}
 
--- Between two lines of a run that began with this disk: the hub has the world, the moment and the history of the
--- answered lines, and its journal stands for that history, also after a crash. No object has failed.
-pub record Running {D : Type 0} {J : Ghosts D} (was now : Outside) (first : D) (answerer : Answerer D J) : Type 0 where
+-- What the answered lines of a run come to: this world, this moment and this history, for which the journal stands,
+-- also after a crash.
+pub record Running (was now : Outside) (leaves : Imaging) (world : World) (moment : ℕ)
+    (history : List Entry) : Type 0 where
   pub lines : Answered was now.left now.written
-  pub feeds : line_feeds (joined lines.done) ≡ length lines.done
-  pub world : world_of answerer.hub.state ≡ (run lines.opening lines.done).world
-  pub moment : answerer.now ≡ (run lines.opening lines.done).now
-  pub history : answerer.hub.state.history ≡ lines.opening ++ (run lines.opening lines.done).entries
-  pub whole : answerer.hub.journal.torn ≡ false
-  pub holds : HoldsIn answerer.hub
+  pub entries : List Entry
+  pub texts : List ℕ
+  pub comes : run lines.opening lines.done ≡ record { world = world; now = moment; entries = entries; written = texts }
+  pub longer : history ≡ lines.opening ++ entries
+  pub stands : IfSome now.told (StandsForHistory history)
+  pub images : leaves (StandsForPart lines.opening entries)
+
+-- what the objects of a run tell
+abbrev pub outside_in : {A B D : Type 0} {J : Ghosts D} → SourceGhosts A → SinkGhosts B → A → B → Answerer D J → Outside
+outside_in {A} {B} {D} {J} S O source sink answerer = outside_of S O J source sink answerer.hub.journal.disk.now
+
+-- Between two lines of a run that began with this disk, the hub is where the answered lines lead.
+pub record RunsOn {A B D : Type 0} {J : Ghosts D} (S : SourceGhosts A) (O : SinkGhosts B) (was : Outside) (first : D)
+    (source : A) (sink : B) (answerer : Answerer D J) : Type 0 where
+  pub run :
+      Running was (outside_in S O source sink answerer) (crash_of J first answerer.hub.journal.disk.now)
+      (world_of answerer.hub.state) answerer.now answerer.hub.state.history
+  pub feeds : line_feeds (joined run.lines.done) ≡ length run.lines.done
   pub told : StaysTold (J.told first) (J.told answerer.hub.journal.disk.now)
-  pub images : crash_of J first answerer.hub.journal.disk.now
-      (StandsForPart lines.opening (run lines.opening lines.done).entries)
-  pub counts : Counts was now 0
 
--- the statuses with which lines end
-abbrev pub is_of_lines : ℕ → Bool
-is_of_lines code = (code == 0) || (code == 5) || (code == 6) || (code == 7) || (code == 8) || (code == 9)
-
--- The lines of such a run have ended.
-pub record LinesEnd {D : Type 0} (J : Ghosts D) (was now : Outside) (first disk : D) (end : PlainEnd) : Type 0 where
-  pub reason : HasPlainReason was now (crash_of J first disk) end
-  pub counts : Counts was now (plain_code end)
-  pub told : StaysTold (J.told first) (J.told disk)
-  pub durable : is_certain (plain_code end) ≡ true → SurvivesCrash (J.told disk) (J.may_leave disk)
-  pub of_lines : is_of_lines (plain_code end) ≡ true
-
--- the same over the objects
-abbrev pub RunsOn : {A B D : Type 0} {J : Ghosts D} → SourceGhosts A → SinkGhosts B → Outside → D → A → B
-    → Answerer D J → Type 0
-RunsOn {A} {B} {D} {J} S O was first source sink answerer =
-    Running was (outside_of S O J source sink answerer.hub.journal.disk.now) first answerer
-
+-- the lines of such a run have ended
 abbrev pub EndsWith : {A B D : Type 0} {J : Ghosts D} → SourceGhosts A → SinkGhosts B → Outside → D → A → B
     → Answerer D J → PlainEnd → Type 0
 EndsWith {A} {B} {D} {J} S O was first source sink answerer end =
-    let disk = answerer.hub.journal.disk.now in
-    LinesEnd J was (outside_of S O J source sink disk) first disk end
+    HasPlainReason was (outside_in S O source sink answerer) (crash_of J first answerer.hub.journal.disk.now) end

@@ -1,7 +1,7 @@
 // What answers lines: a hub, and the moment that lines hand in.
 ghost use Rattle.std.specs.Prelude.{◌≡◌, ◌++◌, [], ◌∷◌, Some, IfOk, OnOk, string_bytes};
 ghost use Rattle.fh_event.specs.Lines.{answer_line as answer_line_of};
-ghost use Rattle.fh_script.specs.Answerer.{IsText, TellsStep};
+ghost use Rattle.fh_script.specs.Answerer.{IsText};
 ghost use Rattle.fh_script.specs.Machine.{at_text, fault_text, moment_after, printed};
 
 use crate::faults::{AnswerFault, WordFault};
@@ -20,10 +20,10 @@ pub struct Answerer<'d, J: Disk> {
 }
 
 impl<'d, J: Disk> Answerer<'d, J> {
-    ghost use Rattle.std.specs.Prelude.{◌≡◌, false, IfOk, IfErr, string_bytes};
+    ghost use Rattle.std.specs.Prelude.{◌≡◌, false, IfOk, IsErrOf, string_bytes};
     ghost use Rattle.fh_hub.specs.Hub.{LeavesSince, faults_of};
     ghost use Rattle.fh_hub.specs.State.{IsIdle};
-    ghost use Rattle.fh_script.specs.Answerer.{CountsAnswer, HasDone, HasNoAnswer, HoldsIn, StandsEither, StaysToldIn, done_in, made_in};
+    ghost use Rattle.fh_script.specs.Answerer.{CountsAnswer, HasDone, Holds, HoldsIn, LacksMemory, StandsEither, StaysToldIn, done_in, made_in};
 
     /// Over a disk whose journal was prepared, at the moment 0. Takes no memory.
     pub fn over(alloc: Global, disk: &'d mut J, state: State) -> Answerer<'d, J>
@@ -31,8 +31,8 @@ impl<'d, J: Disk> Answerer<'d, J> {
         ensures same { result.hub.journal.disk.ghost_name ≡ disk.entry.ghost_name }
         ensures disk { result.hub.journal.disk.now ≡ disk.entry.now }
         ensures state { result.hub.state ≡ state }
-        ensures gate { result.hub.journal.gate ≡ state.gate }
-        ensures whole { result.hub.journal.torn ≡ false }
+        ensures holds { Holds (J.told disk.entry.now) (J.may_leave disk.entry.now) state.history state.gate
+            → HoldsIn result.hub }
         ensures now { result.now ≡ 0 }
     {
         Answerer {
@@ -52,13 +52,13 @@ impl<'d, J: Disk> Answerer<'d, J> {
 
     /// Does what a line says, and gives the text that answers it: empty for a line of no words. Where that
     /// text finds no memory the step may have been made.
-    #[tactic(auto, unfolding(crate::specs::Machine::answer_line), using(fh_disk::proofs::Told::stays_as_told))]
+    #[tactic(auto, unfolding(crate::specs::Machine::answer_line), using(crate::proofs::Crashes::leaves_as_was, crate::proofs::Crashes::stays_as_told))]
     pub fn answer(&mut self, alloc: Global, line: &[u8]) -> Result<String, AnswerFault>
-        requires whole { self.old.hub.journal.torn ≡ false }
         requires holds { HoldsIn self.old.hub }
         ensures done { IfOk result
             (λ text. HasDone self.old self.new (done_in self.old line.now) (string_bytes text)) }
-        ensures fault { IfErr result (HasNoAnswer self.old self.new (done_in self.old line.now).entries) }
+        ensures memory { IsErrOf result AnswerFault.NoMemory
+            → LacksMemory self.old self.new (done_in self.old line.now).entries }
         ensures any_moment { LeavesSince self.old.hub self.new.hub
             (StandsEither self.old.hub.state.history (done_in self.old line.now).entries) }
         ensures counts { CountsAnswer (faults_of self.old.hub) (faults_of self.new.hub) result }
@@ -74,12 +74,13 @@ impl<'d, J: Disk> Answerer<'d, J> {
         }
     }
 
+    #[tactic(auto, using(crate::proofs::Crashes::held, crate::proofs::Crashes::leaves_either))]
     fn step(&mut self, alloc: Global, command: &Command) -> Result<String, AnswerFault>
-        requires whole { self.old.hub.journal.torn ≡ false }
         requires holds { HoldsIn self.old.hub }
         ensures done { IfOk result
             (λ text. HasDone self.old self.new (made_in self.old command.now) (string_bytes text)) }
-        ensures fault { IfErr result (HasNoAnswer self.old self.new (made_in self.old command.now).entries) }
+        ensures memory { IsErrOf result AnswerFault.NoMemory
+            → LacksMemory self.old self.new (made_in self.old command.now).entries }
         ensures any_moment { LeavesSince self.old.hub self.new.hub
             (StandsEither self.old.hub.state.history (made_in self.old command.now).entries) }
         ensures counts { CountsAnswer (faults_of self.old.hub) (faults_of self.new.hub) result }
@@ -87,19 +88,12 @@ impl<'d, J: Disk> Answerer<'d, J> {
         ensures same { self.new.hub.journal.disk.ghost_name ≡ self.old.hub.journal.disk.ghost_name }
     {
         let stepped = self.hub.step(alloc, command, self.now);
-        step_line(alloc, &stepped)
-    }
-}
-
-// The answer of a step.
-fn step_line(alloc: Global, stepped: &Result<Reply, StepFault>) -> Result<String, AnswerFault>
-    ensures { TellsStep stepped.now result }
-{
-    match stepped {
-        Ok(reply) => answer_line(alloc, Ok(reply)),
-        Err(StepFault::Rule(rule)) => answer_line(alloc, Err(rule)),
-        Err(StepFault::NoMemory) => Err(AnswerFault::NoMemory),
-        Err(StepFault::DiskFault) => Err(AnswerFault::DiskFault),
+        match &stepped {
+            Ok(reply) => answer_line(alloc, Ok(reply)),
+            Err(StepFault::Rule(rule)) => answer_line(alloc, Err(rule)),
+            Err(StepFault::NoMemory) => Err(AnswerFault::NoMemory),
+            Err(StepFault::DiskFault) => Err(AnswerFault::DiskFault),
+        }
     }
 }
 

@@ -12,7 +12,6 @@
 #![tactic(auto)]
 
 mod answerer;
-mod ends;
 mod faults;
 mod forms;
 mod grammar;

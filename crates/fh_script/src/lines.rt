@@ -1,41 +1,44 @@
 // The lines of a source.
-ghost use Rattle.std.specs.Prelude.{◌≡◌, ◌<◌, true, IfOk, IfErr};
-ghost use Rattle.fh_script.specs.Lines.{CountsRead, HasLineReason, ReadsLine, line_text};
+ghost use Rattle.std.specs.Prelude.{◌≡◌, ◌<◌, ◌==◌, true, false, IfNone, IfSome};
+ghost use Rattle.fh_script.specs.Ends.{code_so_far, is_of_lines};
+ghost use Rattle.fh_script.specs.Lines.{CountsRead, EndsAt, FindsLine, line_text};
 
-use crate::faults::LineFault;
-use fh_base::{LONGEST_LINE, Source, read_byte};
+use fh_base::{LONGEST_LINE, PlainEnd, Source, read_byte};
 
 const LINE_FEED: u8 = b'\n';
 
-/// Reads the next line into the buffer, with its line feed, and says whether there was one. A last line
-/// without a line feed counts where it isn't empty.
-pub(crate) fn read_line<S: Source>(source: &mut S, line: &mut Vec<u8>) -> Result<bool, LineFault>
-    ensures read { IfOk result (ReadsLine (S.left source.old) (S.left source.new) line.new.items) }
-    ensures reason { IfErr result (HasLineReason (S.left source.old) (S.left source.new)) }
+/// Reads the next line into the buffer, with its line feed, and says how the lines end where there is none.
+/// A last line without a line feed counts where it isn't empty.
+#[tactic(auto, using(crate::proofs::LineReading::reading))]
+pub(crate) fn read_line<S: Source>(source: &mut S, line: &mut Vec<u8>) -> Option<PlainEnd>
+    ensures read { IfNone result (FindsLine (S.left source.old) (S.left source.new) line.new.items) }
+    ensures ends { IfSome result (EndsAt (S.left source.old) (S.left source.new)) }
     ensures counts { CountsRead (S.read_faults source.old) (S.read_faults source.new) result }
-    ensures less { IfOk result (λ found. found ≡ true → S.most source.new < S.most source.old) }
+    ensures own { ((code_so_far result == 6) ≡ false) × ((code_so_far result == 7) ≡ false) }
+    ensures of_lines { is_of_lines (code_so_far result) ≡ true }
+    ensures less { IfNone result (S.most source.new < S.most source.old) }
 {
     line.clear();
     loop {
         let byte = match read_byte(source) {
             Ok(byte) => byte,
-            Err(_) => return Err(LineFault::ReadFault),
+            Err(_) => return Some(PlainEnd::ReadFault),
         };
         let Some(byte) = byte else {
             if line.is_empty() {
-                return Ok(false);
+                return Some(PlainEnd::Finished);
             }
-            return Ok(true);
+            return None;
         };
         match line.push(byte) {
             Ok(()) => {}
-            Err(_) => return Err(LineFault::NoMemory),
+            Err(_) => return Some(PlainEnd::NoMemory),
         }
         if byte == LINE_FEED {
-            return Ok(true);
+            return None;
         }
         if line.len() > LONGEST_LINE {
-            return Err(LineFault::TooLong);
+            return Some(PlainEnd::LongLine);
         }
     }
 }

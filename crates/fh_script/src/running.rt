@@ -1,24 +1,27 @@
 // The top call of the script.
-ghost use Rattle.std.specs.Prelude.{◌≡◌, ◌≤◌, ◌⊎◌, ◌==◌, ◌<◌, [], true, false, not, IfNone, MatchOption};
+ghost use Rattle.std.specs.Prelude.{◌≡◌, ◌⊎◌, ◌==◌, ◌<◌, [], true, not, IfNone, MatchOption};
 ghost use Rattle.fh_base.specs.Ends.{Concludes, plain_code, plain_line};
 ghost use Rattle.fh_disk.specs.Disk.{StaysTold};
-ghost use Rattle.fh_script.specs.Answerer.{HoldsIn};
-ghost use Rattle.fh_script.specs.Ends.{code_of};
+ghost use Rattle.fh_script.specs.Answerer.{HoldsIn, StaysToldIn};
+ghost use Rattle.fh_script.specs.Ends.{code_of, code_so_far, is_of_lines};
 ghost use Rattle.fh_script.specs.Outside.{Counts, Outside, crash_of, outside_of};
-ghost use Rattle.fh_script.specs.Running.{EndsWith, RunsOn};
+ghost use Rattle.fh_script.specs.Running.{EndsWith, RunsOn, outside_in};
 ghost use Rattle.fh_script.specs.Script.{EndsBy, HasReason, IsReady, NoneRose, SurvivesCrash, is_certain, is_script};
 
 use crate::answerer::Answerer;
+use crate::faults::AnswerFault;
 use crate::lines::read_line;
 use fh_base::{PlainEnd, Sink, Source, Status, write_all, write_last_line};
 use fh_disk::Disk;
 use fh_hub::{HubFault, prepare, write_unmounted};
+use fh_journal::files_have_one_reading;
 use std::alloc::Global;
 
 /// Answers the lines of the source in order over the journal, and writes each answer before the next
 /// line is read. The words are those of the command line, the name of the command first. The status is
 /// 0 where the source was read to its end; docs/commands.md has the others, each with its last line.
 /// The checkpoint is left alone.
+#[tactic(auto, using(crate::proofs::LineReading::not_long))]
 pub fn script<S: Source, O: Sink, J: Disk, K: Disk>(
     alloc: Global,
     words: &[String],
@@ -46,10 +49,7 @@ pub fn script<S: Source, O: Sink, J: Disk, K: Disk>(
     ensures unread { result.code ≡ 4 → source.new ≡ source.old }
     ensures checkpoint { _checkpoint.new ≡ _checkpoint.old }
 {
-    if !is_script(words) {
-        return conclude(sink, PlainEnd::Usage);
-    }
-    match run(alloc, source, sink, journal) {
+    match run(alloc, words, source, sink, journal) {
         Ok(end) => conclude(sink, end),
         Err(fault) => Status {
             code: write_unmounted(alloc, sink, fault).code(),
@@ -78,9 +78,11 @@ fn conclude<O: Sink>(sink: &mut O, end: PlainEnd) -> Status
     Status { code: end.code() }
 }
 
-// Mounts the journal, and answers the lines.
+// Tests the words, mounts the journal, and answers the lines.
+#[tactic(auto, using(crate::proofs::Crashes::stays_as_told, crate::proofs::Crashes::stays_told))]
 fn run<S: Source, O: Sink, J: Disk>(
     alloc: Global,
+    words: &[String],
     source: &mut S,
     sink: &mut O,
     journal: &mut J,
@@ -93,9 +95,13 @@ fn run<S: Source, O: Sink, J: Disk>(
     ensures told { StaysTold (J.told journal.old) (J.told journal.new) }
     ensures durable { is_certain (code_of result) ≡ true
         → SurvivesCrash (J.told journal.new) (J.may_leave journal.new) }
+    ensures usage { (code_of result == 2) ≡ not (is_script words.now) }
+    ensures unasked { code_of result ≡ 2 → (source.new ≡ source.old) × (journal.new ≡ journal.old) }
     ensures unread { code_of result ≡ 4 → source.new ≡ source.old }
-    ensures asked { (code_of result == 2) ≡ false }
 {
+    if !is_script(words) {
+        return Ok(PlainEnd::Usage);
+    }
     let state = match prepare(alloc, journal) {
         Ok(state) => state,
         Err(fault) => return Err(fault),
@@ -103,21 +109,27 @@ fn run<S: Source, O: Sink, J: Disk>(
     let mut answerer = Answerer::over(alloc, journal, state);
     let end = answer_lines(alloc, source, sink, &mut answerer);
     answerer.close();
+    files_have_one_reading();
     Ok(end)
 }
 
 // Answers the lines from the first on, and says how they end.
+#[tactic(auto, using(crate::proofs::Crashes::stays_as_told, crate::proofs::Crashes::stays_told, crate::proofs::Turning::counts_on))]
 fn answer_lines<S: Source, O: Sink, J: Disk>(
     alloc: Global,
     source: &mut S,
     sink: &mut O,
     answerer: &mut Answerer<'_, J>,
 ) -> PlainEnd
-    requires whole { answerer.old.hub.journal.torn ≡ false }
     requires holds { HoldsIn answerer.old.hub }
     ensures ends { (was : Outside) (first : J)
         → RunsOn S.Source O.Sink was first source.old sink.old answerer.old
         → EndsWith S.Source O.Sink was first source.new sink.new answerer.new result }
+    ensures counts { Counts (outside_in S.Source O.Sink source.old sink.old answerer.old)
+        (outside_in S.Source O.Sink source.new sink.new answerer.new) (plain_code result) }
+    ensures of_lines { is_of_lines (plain_code result) ≡ true }
+    ensures told { StaysToldIn answerer.old answerer.new }
+    ensures holds { is_certain (plain_code result) ≡ true → HoldsIn answerer.new.hub }
     ensures same { answerer.new.hub.journal.disk.ghost_name ≡ answerer.old.hub.journal.disk.ghost_name }
 {
     let mut line = Vec::new(alloc);
@@ -137,26 +149,28 @@ fn answer_next<S: Source, O: Sink, J: Disk>(
     answerer: &mut Answerer<'_, J>,
     line: &mut Vec<u8>,
 ) -> Option<PlainEnd>
-    requires whole { answerer.old.hub.journal.torn ≡ false }
     requires holds { HoldsIn answerer.old.hub }
     ensures goes { (was : Outside) (first : J)
         → RunsOn S.Source O.Sink was first source.old sink.old answerer.old
         → MatchOption result (RunsOn S.Source O.Sink was first source.new sink.new answerer.new)
         (EndsWith S.Source O.Sink was first source.new sink.new answerer.new) }
-    ensures whole { IfNone result (answerer.new.hub.journal.torn ≡ false) }
-    ensures holds { IfNone result (HoldsIn answerer.new.hub) }
+    ensures counts { Counts (outside_in S.Source O.Sink source.old sink.old answerer.old)
+        (outside_in S.Source O.Sink source.new sink.new answerer.new) (code_so_far result) }
+    ensures of_lines { is_of_lines (code_so_far result) ≡ true }
+    ensures told { StaysToldIn answerer.old answerer.new }
+    ensures holds { is_certain (code_so_far result) ≡ true → HoldsIn answerer.new.hub }
     ensures less { IfNone result (S.most source.new < S.most source.old) }
     ensures same { answerer.new.hub.journal.disk.ghost_name ≡ answerer.old.hub.journal.disk.ghost_name }
 {
     match read_line(source, line) {
-        Ok(true) => {}
-        Ok(false) => return Some(PlainEnd::Finished),
-        Err(fault) => return Some(PlainEnd::from(fault)),
+        Some(end) => return Some(end),
+        None => {}
     }
     let line = line.as_slice();
     let text = match answerer.answer(alloc, line) {
         Ok(text) => text,
-        Err(fault) => return Some(PlainEnd::from(fault)),
+        Err(AnswerFault::DiskFault) => return Some(PlainEnd::DiskFault),
+        Err(AnswerFault::NoMemory) => return Some(PlainEnd::NoMemory),
     };
     match write_all(sink, text.as_bytes()) {
         Ok(()) => {}

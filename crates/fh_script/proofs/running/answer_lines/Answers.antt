@@ -1,17 +1,13 @@
-use Rattle.std.proofs.Common.{refl, ◌∙◌}
+use Rattle.std.proofs.Common.{rules}
+use Rattle.fh_script.proofs.Crashes.{stays_told}
+use Rattle.fh_script.proofs.Turning.{counts_on}
 use Rattle.fh_script.proofs.running.answer_lines.Goals as goal
-
-pub loop-end-init : goal.loop-end-init
-loop-end-init g c = record { on = λ was first it. it; whole = c.requires.whole; holds = c.requires.holds; same = refl }
-
-pub returns-in-Some-clause-ends : goal.returns-in-Some-clause-ends
-returns-in-Some-clause-ends g c = λ was first it. c.in-Some.ensures.goes was first
-    (c.loop-end.invariant.on was first it)
 
 pub loop-end-preserved : goal.loop-end-preserved
 loop-end-preserved g c = record {
   on = λ was first it. c.in-None.ensures.goes was first (c.loop-end.invariant.on was first it);
-  whole = c.in-None.ensures.whole;
-  holds = c.in-None.ensures.holds;
-  same = c.answer_next.ensures.same ∙ c.loop-end.invariant.same;
+  counts = counts_on c.loop-end.invariant.counts c.in-None.ensures.counts;
+  told = stays_told _ _ _ c.loop-end.invariant.told c.in-None.ensures.told;
+  holds = search rules;
+  same = search rules;
 }

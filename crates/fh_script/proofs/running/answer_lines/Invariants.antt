@@ -1,7 +1,7 @@
-use Rattle.std.proofs.Common.{◌≡◌, false}
-use Rattle.fh_script.specs.Answerer.{HoldsIn}
-use Rattle.fh_script.specs.Outside.{Outside}
-use Rattle.fh_script.specs.Running.{RunsOn}
+use Rattle.std.proofs.Common.{◌≡◌}
+use Rattle.fh_script.specs.Answerer.{HoldsIn, StaysToldIn}
+use Rattle.fh_script.specs.Outside.{Counts, Outside}
+use Rattle.fh_script.specs.Running.{RunsOn, outside_in}
 use Rattle.fh_script.proofs.running.answer_lines.Given as goal
 
 abbrev pub invariant-loop-end : goal.invariant-loop-end
@@ -10,7 +10,10 @@ invariant-loop-end g l = record {
       (was : Outside) (first : g.row.J.Denot)
       → RunsOn g.S.Source g.O.Sink was first l.initial.source l.initial.sink l.initial.answerer
       → RunsOn g.S.Source g.O.Sink was first l.source l.sink l.answerer;
-  whole : l.answerer.hub.journal.torn ≡ false;
+  counts :
+      Counts (outside_in g.S.Source g.O.Sink l.initial.source l.initial.sink l.initial.answerer)
+      (outside_in g.S.Source g.O.Sink l.source l.sink l.answerer) 0;
+  told : StaysToldIn l.initial.answerer l.answerer;
   holds : HoldsIn l.answerer.hub;
   same : l.answerer.hub.journal.disk.ghost_name ≡ l.initial.answerer.hub.journal.disk.ghost_name;
 }
