@@ -198,6 +198,43 @@ fn lines_over_the_journal_of_the_first_run(rt: HostRuntime) -> Result<(), Fail> 
     expect(&rt, &FIRST_FILE, &cases)
 }
 
+// The session of docs/commands.md: each run goes on with the journal of the one before.
+#[test]
+fn a_session_of_runs_over_one_journal(rt: HostRuntime) -> Result<(), Fail> {
+    let runs = [
+        ("queue orders\nput orders 0 -1 hi\n", "ok\nok 1 1\n"),
+        (
+            "at 1000\ntake orders 1 30\nwhere 1\n",
+            "at 1000\nok 1 1:2:1:hi\nis held orders 31000\n",
+        ),
+        (
+            "at 2000\ndelete orders 1 1\ndelete orders 1 2\nwhere 1\n",
+            "at 2000\nno 10 PopReceiptMismatch 2\nok\nis deleted\n",
+        ),
+        (
+            "acquire jobs 7 15\nblob inbox a.txt x\nget inbox a.txt\n",
+            "ok 17000\nok 1\nis 1 x\n",
+        ),
+        (
+            "at 16999\nacquire jobs 8 15\nat 17000\nacquire jobs 8 15\n",
+            "at 16999\nno 11 LeaseHeld 7 17000\nat 17000\nok 32000\n",
+        ),
+        ("renew jobs 7\n", "no 12 LeaseMismatch 8\n"),
+    ];
+    let mut journal = Vec::new(rt.alloc());
+    for (lines, answers) in runs {
+        let end = run(&rt, lines.as_bytes(), &journal, NEVER)?;
+        assert_eq!(rt; (end.code, end.written.as_str()), (0, answers));
+        let Outcome {
+            code: _,
+            written: _,
+            journal: left,
+        } = end;
+        journal = left;
+    }
+    Ok(())
+}
+
 #[test]
 fn ranges_and_expiry(rt: HostRuntime) -> Result<(), Fail> {
     let lines = "queue orders\ntake orders 33 30\nput orders 0 - a\nput orders 10 10 a\n\
