@@ -28,4 +28,6 @@ pub use running::{is_script, script};
 #[cfg(test)]
 mod grammar_tests;
 #[cfg(test)]
+mod store_tests;
+#[cfg(test)]
 mod tests;

@@ -4,10 +4,10 @@ use fh_disk::MemoryDisk;
 use std::test::Fail;
 
 #[derive(Drop)]
-struct Outcome {
-    code: u8,
-    written: String,
-    journal: Vec<u8>,
+pub(crate) struct Outcome {
+    pub(crate) code: u8,
+    pub(crate) written: String,
+    pub(crate) journal: Vec<u8>,
 }
 
 fn failing_after(passed: u64) -> FaultPlan {
@@ -15,7 +15,12 @@ fn failing_after(passed: u64) -> FaultPlan {
 }
 
 // What `script` leaves over these lines and this journal, where each object passes so many calls.
-fn run(rt: &HostRuntime, lines: &[u8], journal: &[u8], passed: [u64; 3]) -> Result<Outcome, Fail> {
+pub(crate) fn run(
+    rt: &HostRuntime,
+    lines: &[u8],
+    journal: &[u8],
+    passed: [u64; 3],
+) -> Result<Outcome, Fail> {
     let alloc = rt.alloc();
     let words = words_of(rt, "script journal checkpoint")?;
     let mut source = MemorySource::new(lines.to_vec(alloc)?, failing_after(passed[0]));
@@ -42,7 +47,30 @@ fn words_of(rt: &HostRuntime, line: &str) -> Result<Vec<String>, Fail> {
     Ok(words)
 }
 
-const NEVER: [u64; 3] = [1_000_000; 3];
+pub(crate) const NEVER: [u64; 3] = [1_000_000; 3];
+
+// The lines of a table that aren't answered over this journal as the table says.
+pub(crate) fn expect(rt: &HostRuntime, journal: &[u8], cases: &[(&str, &str)]) -> Result<(), Fail> {
+    for (lines, answers) in cases {
+        let end = run(rt, lines.as_bytes(), journal, NEVER)?;
+        let found = end.written.as_str();
+        if end.code != 0 || found != *answers {
+            return Err(Fail::from(format!(in rt.alloc(); "{found} in place of {answers}")?));
+        }
+    }
+    Ok(())
+}
+
+// The journal of these entries, each with its length.
+pub(crate) fn journal_of(rt: &HostRuntime, entries: &[(u8, &[u8])]) -> Result<Vec<u8>, Fail> {
+    let mut file = b"FNHJ\0\x01".to_vec(rt.alloc())?;
+    for (length, entry) in entries {
+        file.extend_from_slice(&[1, 0, 0, 0, *length])?;
+        file.extend_from_slice(entry)?;
+    }
+    file.push(0)?;
+    Ok(file)
+}
 
 const FRESH: [u8; 7] = [0x46, 0x4E, 0x48, 0x4A, 0, 1, 0];
 
@@ -103,12 +131,7 @@ fn the_first_run_leaves_these_70_bytes(rt: HostRuntime) -> Result<(), Fail> {
 
 #[test]
 fn an_old_receipt_leaves_these_four_entries(rt: HostRuntime) -> Result<(), Fail> {
-    let mut file = b"FNHJ\0\x01".to_vec(rt.alloc())?;
-    for (length, entry) in OLD_RECEIPT_ENTRIES {
-        file.extend_from_slice(&[1, 0, 0, 0, length])?;
-        file.extend_from_slice(entry)?;
-    }
-    file.push(0)?;
+    let file = journal_of(&rt, &OLD_RECEIPT_ENTRIES)?;
     let end = run(&rt, OLD_RECEIPT.as_bytes(), b"", NEVER)?;
     assert_eq!(rt; end.journal.as_slice(), file.as_slice());
     Ok(())
@@ -148,11 +171,7 @@ fn lines_over_an_empty_journal(rt: HostRuntime) -> Result<(), Fail> {
             "no 1 MomentTooLate\nat 253402300799999\nok\nat 0\nok 1 1\nquiet empty\n",
         ),
     ];
-    for (lines, answers) in cases {
-        let end = run(&rt, lines.as_bytes(), b"", NEVER)?;
-        assert_eq!(rt; end.code, 0);
-        assert_eq!(rt; end.written.as_str(), answers);
-    }
+    expect(&rt, b"", &cases)?;
     let end = run(&rt, b"queue a\xff\n", b"", NEVER)?;
     assert_eq!(rt; end.written.as_str(), "bad text\n");
     Ok(())
@@ -176,10 +195,42 @@ fn lines_over_the_journal_of_the_first_run(rt: HostRuntime) -> Result<(), Fail> 
         ),
         ("queue orders\n", "quiet there\n"),
     ];
-    for (lines, answers) in cases {
-        let end = run(&rt, lines.as_bytes(), &FIRST_FILE, NEVER)?;
-        assert_eq!(rt; end.code, 0);
-        assert_eq!(rt; end.written.as_str(), answers);
+    expect(&rt, &FIRST_FILE, &cases)
+}
+
+// The session of docs/commands.md: each run goes on with the journal of the one before.
+#[test]
+fn a_session_of_runs_over_one_journal(rt: HostRuntime) -> Result<(), Fail> {
+    let runs = [
+        ("queue orders\nput orders 0 -1 hi\n", "ok\nok 1 1\n"),
+        (
+            "at 1000\ntake orders 1 30\nwhere 1\n",
+            "at 1000\nok 1 1:2:1:hi\nis held orders 31000\n",
+        ),
+        (
+            "at 2000\ndelete orders 1 1\ndelete orders 1 2\nwhere 1\n",
+            "at 2000\nno 10 PopReceiptMismatch 2\nok\nis deleted\n",
+        ),
+        (
+            "acquire jobs 7 15\nblob inbox a.txt x\nget inbox a.txt\n",
+            "ok 17000\nok 1\nis 1 x\n",
+        ),
+        (
+            "at 16999\nacquire jobs 8 15\nat 17000\nacquire jobs 8 15\n",
+            "at 16999\nno 11 LeaseHeld 7 17000\nat 17000\nok 32000\n",
+        ),
+        ("renew jobs 7\n", "no 12 LeaseMismatch 8\n"),
+    ];
+    let mut journal = Vec::new(rt.alloc());
+    for (lines, answers) in runs {
+        let end = run(&rt, lines.as_bytes(), &journal, NEVER)?;
+        assert_eq!(rt; (end.code, end.written.as_str()), (0, answers));
+        let Outcome {
+            code: _,
+            written: _,
+            journal: left,
+        } = end;
+        journal = left;
     }
     Ok(())
 }
