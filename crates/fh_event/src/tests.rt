@@ -11,25 +11,47 @@ const PUT_HI: [u8; 34] = [
     0, 0, 0, 0, 0, 2, 0x68, 0x69,
 ];
 
-#[test]
-fn two_entries_byte_for_byte(rt: HostRuntime) -> Result<(), Fail> {
-    let start = Moment::new(0).ok_or("0 is a moment")?;
-    let queue = Command::MakeQueue {
-        queue: Text::from_str(rt.alloc(), "orders")?,
-    };
-    let mut bytes = Vec::new(rt.alloc());
-    encode(&queue, start, &mut bytes)?;
-    assert_eq!(rt; bytes.as_slice(), MADE.as_slice());
-    let put = Command::Put {
-        queue: Text::from_str(rt.alloc(), "orders")?,
+fn make_orders(rt: &HostRuntime) -> Result<Command, Fail> {
+    let queue = Text::from_str(rt.alloc(), "orders")?;
+    Ok(Command::MakeQueue { queue })
+}
+
+fn put_hi(rt: &HostRuntime) -> Result<Command, Fail> {
+    let queue = Text::from_str(rt.alloc(), "orders")?;
+    let text = Text::from_str(rt.alloc(), "hi")?;
+    Ok(Command::Put {
+        queue,
         delay: 0,
         ttl: None,
-        text: Text::from_str(rt.alloc(), "hi")?,
-    };
-    let mut bytes = Vec::new(rt.alloc());
-    encode(&put, start, &mut bytes)?;
-    assert_eq!(rt; bytes.as_slice(), PUT_HI.as_slice());
+        text,
+    })
+}
+
+// The command is written at the moment as these bytes.
+fn expect_bytes(rt: &HostRuntime, command: &Command, ms: u64, bytes: &[u8]) -> Result<(), Fail> {
+    let moment = Moment::new(ms).ok_or("a moment")?;
+    let size = entry_size(command);
+    if size != bytes.len() as u64 || size > 100 {
+        return Err(Fail::from("the entry has another size"));
+    }
+    let mut written = Vec::new(rt.alloc());
+    encode(command, moment, &mut written)?;
+    if written.as_slice() != bytes {
+        return Err(Fail::from("the entry has other bytes"));
+    }
     Ok(())
+}
+
+#[test]
+fn the_entry_of_a_queue_byte_for_byte(rt: HostRuntime) -> Result<(), Fail> {
+    let command = make_orders(&rt)?;
+    expect_bytes(&rt, &command, 0, &MADE)
+}
+
+#[test]
+fn the_entry_of_a_put_byte_for_byte(rt: HostRuntime) -> Result<(), Fail> {
+    let command = put_hi(&rt)?;
+    expect_bytes(&rt, &command, 0, &PUT_HI)
 }
 
 #[test]
@@ -59,35 +81,42 @@ const CONFIGURED: [u8; 65] = [
     0, 0, 0, 0, 0, 0, 0, 0, 0, 0, 0,
 ];
 
-#[test]
-fn settings_are_written_and_read(rt: HostRuntime) -> Result<(), Fail> {
-    let moment = Moment::new(258).ok_or("258 is a moment")?;
-    let configure = Command::Configure {
-        function: Text::from_str(rt.alloc(), "f")?,
+fn configure_orders(rt: &HostRuntime) -> Result<Command, Fail> {
+    let function = Text::from_str(rt.alloc(), "f")?;
+    let queue = Text::from_str(rt.alloc(), "orders")?;
+    Ok(Command::Configure {
+        function,
         settings: FunctionSettings::Queue {
-            queue: Text::from_str(rt.alloc(), "orders")?,
+            queue,
             batch: 16,
             threshold: 8,
             limit: 3,
             retry: 0,
             singleton: 0,
         },
-    };
-    let mut bytes = Vec::new(rt.alloc());
-    encode(&configure, moment, &mut bytes)?;
-    assert_eq!(rt; bytes.as_slice(), CONFIGURED.as_slice());
-    assert_eq!(rt; entry_size(&configure), 65);
-    let (_, read) = decode(rt.alloc(), &CONFIGURED)?;
-    let Command::Configure {
-        settings: FunctionSettings::Queue { batch, limit, .. },
-        ..
-    } = read
-    else {
-        return Err("the bytes configure a function on a queue".into());
-    };
-    assert_eq!(rt; batch, 16);
-    assert_eq!(rt; limit, 3);
-    Ok(())
+    })
+}
+
+#[test]
+fn the_entry_of_settings_byte_for_byte(rt: HostRuntime) -> Result<(), Fail> {
+    let command = configure_orders(&rt)?;
+    expect_bytes(&rt, &command, 258, &CONFIGURED)
+}
+
+#[test]
+fn settings_are_read(rt: HostRuntime) -> Result<(), Fail> {
+    let (_, command) = decode(rt.alloc(), &CONFIGURED)?;
+    match command {
+        Command::Configure {
+            settings: FunctionSettings::Queue { batch, limit, .. },
+            ..
+        } => {
+            assert_eq!(rt; batch, 16);
+            assert_eq!(rt; limit, 3);
+            Ok(())
+        }
+        _ => Err("the bytes configure a function on a queue".into()),
+    }
 }
 
 #[test]
