@@ -32,3 +32,6 @@ pub use laws::{
 };
 pub use queues::inner_queue;
 pub use work::Work;
+
+#[cfg(test)]
+mod tests;
