@@ -1,5 +1,5 @@
 -- The plan of a function that gets new settings.
-use Rattle.std.proofs.Common.{◌≡◌, ℕ, Bool, true, false, List, [], ◌∷◌, Option, Some, None, Result, Ok, Err, refl, sym, ap, ◌∙◌, subst}
+use Rattle.std.proofs.Common.{◌≡◌, ℕ, Bool, true, false, List, [], ◌∷◌, Some, None, Result, Ok, Err, refl, sym, ap, ◌∙◌}
 use Rattle.std.specs.Prelude.{if◌then◌else◌, IfOk, IfErr}
 use Rattle.fh_base.specs.declared.rule.Rule.{Rule}
 use Rattle.fh_event.specs.declared.faults.PlanFault.{PlanFault}
@@ -20,7 +20,7 @@ use Rattle.fh_dispatch.specs.Rules.{queue_rule, ranges_rule}
 use Rattle.fh_dispatch.specs.Outcome.{number_or, configured, configuring, made_by, Outcome}
 use Rattle.fh_dispatch.specs.Queues.{queue_of, configuring_queues}
 use Rattle.fh_dispatch.specs.Edits.{Change, planned}
-use Rattle.fh_dispatch.specs.Faults.{IsPlanOf, IsQueuesPlanOf, IsQueuesFaultOf}
+use Rattle.fh_dispatch.specs.Faults.{IsPlanOf, IsQueuesFaultOf}
 
 -- no rule refuses that a queue is made
 making_is_accepted : (part : QueuePart) (queue : List ℕ) (m : ℕ) (rule : Rule) → queue_outcome.outcome part (queues.Make queue) m ≡ Refuses rule → ⊥

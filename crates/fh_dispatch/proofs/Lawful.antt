@@ -15,7 +15,7 @@ use Rattle.fh_dispatch.specs.Part.{WorkPart, no_work, function_of}
 use Rattle.fh_dispatch.specs.Settings.{is_as}
 use Rattle.fh_dispatch.specs.Asks.{Ask, Configure, Nothing}
 use Rattle.fh_dispatch.specs.Rules.{settings_rule}
-use Rattle.fh_dispatch.specs.Acts.{next_after, with_function, acted, by_acts}
+use Rattle.fh_dispatch.specs.Acts.{next_after, acted, by_acts}
 use Rattle.fh_dispatch.specs.Outcome.{number_or, configured, configuring_as, Acting, acting, made_by, outcome}
 use Rattle.fh_dispatch.specs.Laws.{number_of, IsWhole, OfEachAsk, StaysWhole, KeepsNumbers, GivesNumbersInTurn, IsAsConfigured, KeepsUnnamed}
 use Rattle.fh_dispatch.proofs.Naming.{same_name, own_name, function_of-set, number_of-set}

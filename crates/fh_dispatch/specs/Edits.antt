@@ -1,5 +1,5 @@
 -- Changes of the work, planned and staged.
-use Rattle.std.specs.Prelude.{◌≡◌, ℕ, ◌<◌, ◌≤◌, ◌^◌, List, length}
+use Rattle.std.specs.Prelude.{ℕ, ◌<◌, ◌≤◌, ◌^◌, List, length}
 use Rattle.fh_event.specs.Judging.{Quiets, Makes}
 use Rattle.fh_dispatch.specs.declared.act.Act.{Act}
 use Rattle.fh_dispatch.specs.declared.done.WorkDone.{WorkDone}

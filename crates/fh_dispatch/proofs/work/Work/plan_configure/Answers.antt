@@ -1,7 +1,5 @@
 -- Where the settings are new and the queue is missing, the queues make it.
-use Rattle.std.proofs.Common.{◌≡◌, false, None, Some, ap, sym, subst, ◌∙◌}
-use Rattle.std.specs.Prelude.{IfOk}
-use Rattle.fh_queues.specs.Asks.{Ask, Make}
+use Rattle.std.proofs.Common.{◌≡◌, false, None, ap, sym, ◌∙◌}
 use Rattle.fh_queues.specs.Part.{has_queue}
 use Rattle.fh_dispatch.specs.Part.{function_of}
 use Rattle.fh_dispatch.specs.Settings.{is_as}
@@ -9,7 +7,6 @@ use Rattle.fh_dispatch.specs.Rules.{ranges_rule}
 use Rattle.fh_dispatch.specs.Outcome.{number_or}
 use Rattle.fh_dispatch.specs.Queues.{queue_of}
 use Rattle.fh_dispatch.specs.Edits.{WorkState}
-use Rattle.fh_dispatch.specs.Faults.{IsQueuesPlanOf}
 use Rattle.fh_dispatch.proofs.Configuring.{set_planned, set_asks, made_as_planned}
 use Rattle.fh_dispatch.proofs.work.Work.plan_configure.Goals as goal
 
