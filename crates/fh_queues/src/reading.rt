@@ -66,7 +66,8 @@ impl Queues {
         }
     }
 
-    pub(crate) fn has_queue(&self, queue: &QueueName) -> bool
+    /// Whether the queue is there. Takes no memory.
+    pub fn has_queue(&self, queue: &QueueName) -> bool
         ensures { result ≡ has_queue self.now.part.queues queue.now }
     {
         self.lists.lanes.has_queue(queue)

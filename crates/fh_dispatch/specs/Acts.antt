@@ -1,0 +1,24 @@
+-- The acts of which each change of the work is made.
+use Rattle.std.specs.Prelude.{ℕ, ◌+◌, ◌==◌, if◌then◌else◌, List, fold}
+use Rattle.fh_rows.specs.Rows.{with_row_at}
+use Rattle.fh_dispatch.specs.declared.function.Function.{Function}
+use Rattle.fh_dispatch.specs.declared.act.Act.{Act}
+use Rattle.fh_dispatch.specs.declared.act.Act.TheVariants.{Set}
+use Rattle.fh_dispatch.specs.Part.{WorkPart, by_name}
+
+-- the next number, after this one was given
+abbrev pub next_after : ℕ → ℕ → ℕ
+next_after next number = if number == next then next + 1 else next
+
+-- the function of this name is this one; where its number is the next one, that is given now
+abbrev pub with_function : Function → WorkPart → WorkPart
+with_function function part = record {
+  functions = with_row_at (by_name function.name) function part.functions;
+  next_function = next_after part.next_function function.number;
+}
+
+unfoldable pub acted : WorkPart → Act → WorkPart
+acted part (Set function) = with_function function part
+
+abbrev pub by_acts : WorkPart → List Act → WorkPart
+by_acts part acts = fold acted part acts

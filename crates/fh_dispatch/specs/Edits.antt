@@ -1,0 +1,49 @@
+-- Changes of the work, planned and staged.
+use Rattle.std.specs.Prelude.{ℕ, ◌<◌, ◌≤◌, ◌^◌, List, length}
+use Rattle.fh_event.specs.Judging.{Quiets, Makes}
+use Rattle.fh_dispatch.specs.declared.act.Act.{Act}
+use Rattle.fh_dispatch.specs.declared.done.WorkDone.{WorkDone}
+use Rattle.fh_dispatch.specs.declared.done.WorkDone.TheVariants.{Same}
+use Rattle.fh_dispatch.specs.Part.{WorkPart}
+use Rattle.fh_dispatch.specs.Acts.{by_acts}
+use Rattle.fh_dispatch.specs.Outcome.{Outcome}
+
+-- what the work holds: its part of the world, and for how many more functions there is room
+pub record WorkState : Type 0 where
+  pub part : WorkPart
+  pub room : ℕ
+
+-- the acts of a change, and its answer
+pub record Change : Type 0 where
+  pub acts : List Act
+  pub done : WorkDone
+
+pub record Staged : Type 0 where
+  pub acts : List Act
+  pub done : WorkDone
+
+-- what a change comes to: equal settings are quiet
+abbrev pub judged : WorkPart → List Act → WorkDone → Outcome
+judged part acts Same = Quiets Same
+judged part acts answer = Makes (by_acts part acts) answer
+
+abbrev pub planned : WorkPart → Change → Outcome
+planned part change = judged part change.acts change.done
+
+-- what settling a staged change makes
+abbrev pub made : WorkState → Staged → WorkPart × WorkDone
+made state staged = (by_acts state.part staged.acts, staged.done)
+
+-- the counter is far from its end
+abbrev pub HasNumbers : WorkPart → Type 0
+HasNumbers part = part.next_function < 2 ^ 63
+
+-- no change is staged: the work keeps nothing of one
+abbrev pub IsIdle : WorkState → Type 0
+IsIdle state = Unit {0}
+
+-- there is room for what it adds
+pub record IsStaged (state : WorkState) (staged : Staged) : Type 0 where
+  pub numbers : HasNumbers state.part
+  pub few : length staged.acts < 2 ^ 63
+  pub room : length staged.acts ≤ state.room

@@ -1,0 +1,37 @@
+-- What a plan, or a fault of planning, says of the outcome.
+use Rattle.std.specs.Prelude.{◌≡◌, ⊤, ℕ, Option, Some, None, Result, Ok, Err}
+use Rattle.fh_base.specs.declared.rule.Rule.{Rule}
+use Rattle.fh_event.specs.declared.faults.PlanFault.{PlanFault}
+use Rattle.fh_event.specs.declared.faults.PlanFault.TheVariants.{Rule as OfRule, NoMemory}
+use Rattle.fh_event.specs.Judging.{Refuses}
+use Rattle.fh_queues.specs.Asks as queues
+use Rattle.fh_queues.specs.Edits as queue_edits
+use Rattle.fh_queues.specs.Faults as queue_faults
+use Rattle.fh_queues.specs.Outcome as queue_outcome
+use Rattle.fh_queues.specs.Part.{QueuePart}
+use Rattle.fh_dispatch.specs.declared.change.WorkPlan.{WorkPlan}
+use Rattle.fh_dispatch.specs.Part.{WorkPart}
+use Rattle.fh_dispatch.specs.Outcome.{Outcome}
+use Rattle.fh_dispatch.specs.Edits.{planned}
+
+-- a rule is told exactly as it is; want of memory says nothing
+abbrev pub IsFaultOf : PlanFault → Option Rule → Type 0
+IsFaultOf (OfRule rule) broken = broken ≡ Some rule
+IsFaultOf NoMemory broken = ⊤
+
+-- the change of the work comes to this outcome of the part, or the fault is its own
+abbrev pub IsPlanOf : WorkPart → Outcome → Result WorkPlan PlanFault → Type 0
+IsPlanOf part outcome (Ok plan) = outcome ≡ planned part plan.work
+IsPlanOf part outcome (Err (OfRule rule)) = outcome ≡ Refuses rule
+IsPlanOf part outcome (Err NoMemory) = ⊤
+
+-- the change of the queues is what they make of the ask, and there is none where nothing is asked of them
+abbrev pub IsQueuesPlanOf : QueuePart → Option queues.Ask → ℕ → Option queue_edits.Change → Type 0
+IsQueuesPlanOf part None m change = change ≡ None
+IsQueuesPlanOf part (Some ask) m None = ⊥
+IsQueuesPlanOf part (Some ask) m (Some change) =
+    queue_outcome.outcome part ask m ≡ queue_edits.planned part change
+
+-- a rule is the one by which the queues refuse the ask
+abbrev pub IsQueuesFaultOf : QueuePart → queues.Ask → ℕ → PlanFault → Type 0
+IsQueuesFaultOf part ask m fault = queue_faults.IsPlanOf part (queue_outcome.outcome part ask m) (Err fault)

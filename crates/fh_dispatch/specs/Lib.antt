@@ -1,0 +1,10 @@
+pub mod Part
+pub mod Settings
+pub mod Asks
+pub mod Rules
+pub mod Acts
+pub mod Outcome
+pub mod Queues
+pub mod Edits
+pub mod Faults
+pub mod Laws

@@ -1,0 +1,23 @@
+-- The work's part of the world.
+use Rattle.std.specs.Prelude.{ℕ, List, [], Option}
+use Rattle.std.specs.Cmp.Lexicographic.{slice_cmp}
+use Rattle.std.specs.Ordering.{nat_cmp}
+use Rattle.std.specs.declared.cmp.Ordering.{Ordering}
+use Rattle.fh_rows.specs.Rows.{row_at}
+use Rattle.fh_dispatch.specs.declared.function.Function.{Function}
+
+-- the functions in order of their names, and the number that the next new one gets
+pub record WorkPart : Type 0 where
+  pub functions : List Function
+  pub next_function : ℕ
+
+abbrev pub no_work : WorkPart
+no_work = record { functions = []; next_function = 1 }
+
+-- how a function stands to a name: names are in order of their bytes
+abbrev pub by_name : List ℕ → Function → Ordering
+by_name name function = slice_cmp nat_cmp function.name name
+
+-- the function of this name
+abbrev pub function_of : List ℕ → List Function → Option Function
+function_of name functions = row_at (by_name name) functions

@@ -1,0 +1,76 @@
+// How a planned change is staged, and then settled or let go.
+ghost use Rattle.std.specs.Prelude.{◌≡◌, ◌+◌, ◌<◌, ◌≤◌, ◌^◌, IfOk, OnErr};
+ghost use Rattle.fh_dispatch.specs.Acts.{by_acts, acted, next_after};
+ghost use Rattle.fh_dispatch.specs.Edits.{HasNumbers, IsIdle, IsStaged, made};
+
+use crate::act::Act;
+use crate::{StagedWork, Work, WorkChange, WorkDone};
+use fh_base::NoMemory;
+
+impl Work {
+    /// Takes all the memory of a change that isn't quiet.
+    pub fn stage(&mut self, change: WorkChange) -> Result<StagedWork, NoMemory>
+        requires idle { IsIdle self.old }
+        requires numbers { HasNumbers self.old.part }
+        ensures part { self.new.part ≡ self.old.part }
+        ensures change { IfOk result
+            (λ staged. made self.new staged ≡ (by_acts self.old.part change.acts, change.done)) }
+        ensures staged { IfOk result (λ staged. IsStaged self.new staged) }
+        ensures err { OnErr result (IsIdle self.new) }
+    {
+        let WorkChange { acts, done } = change;
+        // Each act adds one function at most.
+        self.functions.reserve(acts.len())?;
+        Ok(StagedWork { acts, done })
+    }
+
+    /// Makes a staged change. Takes no memory.
+    pub fn settle(&mut self, staged: StagedWork) -> WorkDone
+        requires { IsStaged self.old staged }
+        ensures after { (self.new.part, result) ≡ made self.old staged }
+        ensures idle { IsIdle self.new }
+    {
+        let StagedWork { acts, done } = staged;
+        for act in acts {
+            self.act(act);
+        }
+        done
+    }
+
+    /// Lets a staged change go. Takes no memory.
+    pub fn unstage(&mut self, staged: StagedWork)
+        requires { IsStaged self.old staged }
+        ensures part { self.new.part ≡ self.old.part }
+        ensures idle { IsIdle self.new }
+    {
+        let StagedWork { acts: _, done: _ } = staged;
+    }
+
+    #[tactic(auto, unfolding(crate::specs::Acts::acted))]
+    fn act(&mut self, act: Act)
+        requires room { 1 ≤ self.old.room }
+        requires numbers { self.old.part.next_function + 1 < 2 ^ 64 }
+        ensures part { self.new.part ≡ acted self.old.part act }
+        ensures room { self.old.room ≤ self.new.room + 1 }
+        ensures numbers { self.new.part.next_function ≤ self.old.part.next_function + 1 }
+    {
+        match act {
+            Act::Set { function } => {
+                self.next_function = next_after(self.next_function, function.number);
+                self.functions.set(function);
+            }
+        }
+    }
+}
+
+// The next function number after this number was given.
+fn next_after(next: u64, number: u64) -> u64
+    requires { next + 1 < 2 ^ 64 }
+    ensures next { result ≡ next_after next number }
+    ensures few { result ≤ next + 1 }
+{
+    if number == next {
+        return next + 1;
+    }
+    next
+}

@@ -1,0 +1,243 @@
+ghost use Rattle.std.specs.Prelude.{◌≡◌, true};
+ghost use Rattle.fh_queues.specs.Edits as queue_edits;
+ghost use Rattle.fh_dispatch.specs.Edits.{HasNumbers};
+
+use super::*;
+use fh_base::{Moment, Rule, Text};
+use fh_blobs::Blobs;
+use fh_event::{FunctionSettings, PlanFault};
+use fh_leases::Leases;
+use fh_queues::Queues;
+use std::alloc::{AllocGlobal, Global};
+use std::process::Abort;
+use std::test::Fail;
+
+#[derive(Clone, Copy)]
+struct Numbers {
+    batch: u64,
+    threshold: u64,
+    limit: u64,
+    retry: u64,
+    singleton: u64,
+}
+
+// What a configure is answered, and whether it makes a queue.
+#[derive(Clone, Copy, Debug, PartialEq, Eq)]
+enum Told {
+    Configured { number: u64, makes: bool },
+    Same,
+    Refused(Rule),
+}
+
+const fn usual() -> Numbers {
+    of_numbers([16, 8, 5, 0, 0])
+}
+
+const fn of_numbers(given: [u64; 5]) -> Numbers {
+    let [batch, threshold, limit, retry, singleton] = given;
+    Numbers {
+        batch,
+        threshold,
+        limit,
+        retry,
+        singleton,
+    }
+}
+
+const fn outside(given: u64, low: u64, high: u64) -> Told {
+    Told::Refused(Rule::OutOfRange { given, low, high })
+}
+
+const fn new(number: u64) -> Told {
+    Told::Configured {
+        number,
+        makes: true,
+    }
+}
+
+fn start() -> Result<Moment, Fail> {
+    Ok(Moment::new(0).ok_or("a moment")?)
+}
+
+fn has_numbers(work: &Work) -> bool
+    ensures { (result ≡ true) → HasNumbers work.now.part }
+{
+    work.next_function < 1_000_000
+}
+
+fn on_queue(alloc: Global, queue: &str, given: Numbers) -> Result<FunctionSettings, Fail> {
+    let Numbers {
+        batch,
+        threshold,
+        limit,
+        retry,
+        singleton,
+    } = given;
+    Ok(FunctionSettings::Queue {
+        queue: Text::from_str(alloc, queue)?,
+        batch,
+        threshold,
+        limit,
+        retry,
+        singleton,
+    })
+}
+
+const fn on_blobs(given: Numbers) -> FunctionSettings {
+    let Numbers {
+        batch,
+        threshold,
+        limit,
+        retry,
+        singleton,
+    } = given;
+    FunctionSettings::Blob {
+        batch,
+        threshold,
+        limit,
+        retry,
+        singleton,
+    }
+}
+
+// Plans, stages and settles an ask, and says whether a queue is to be made.
+fn done(
+    rt: &(impl Abort + AllocGlobal),
+    work: &mut Work,
+    queues: &Queues,
+    ask: &WorkAsk<'_>,
+) -> Result<(WorkDone, bool), PlanFault>
+    requires idle { queue_edits.IsIdle queues.now }
+    requires numbers { queue_edits.HasNumbers queues.now.part }
+{
+    assert!(rt; has_numbers(work));
+    let Some(m) = Moment::new(0) else {
+        return Err(PlanFault::NoMemory);
+    };
+    let blobs = Blobs::new(rt.alloc());
+    let leases = Leases::new(rt.alloc());
+    let plan = work.plan(rt.alloc(), ask, queues, &blobs, &leases, m)?;
+    let makes = plan.queues.is_some();
+    let change = plan.work;
+    if change.is_quiet() {
+        return Ok((change.into_done(), makes));
+    }
+    let staged = work.stage(change)?;
+    Ok((work.settle(staged), makes))
+}
+
+fn configure(
+    rt: &(impl Abort + AllocGlobal),
+    work: &mut Work,
+    queues: &Queues,
+    function: &str,
+    settings: &FunctionSettings,
+) -> Result<Told, Fail>
+    requires idle { queue_edits.IsIdle queues.now }
+    requires numbers { queue_edits.HasNumbers queues.now.part }
+{
+    let ask = WorkAsk::Configure { function, settings };
+    match done(rt, work, queues, &ask) {
+        Ok((WorkDone::Configured { number }, makes)) => Ok(Told::Configured { number, makes }),
+        Ok((WorkDone::Same, false)) => Ok(Told::Same),
+        Ok((_, _)) => Err("another answer".into()),
+        Err(PlanFault::Rule(rule)) => Ok(Told::Refused(rule)),
+        Err(PlanFault::NoMemory) => Err("memory was refused".into()),
+    }
+}
+
+// Whether a first function gets this answer, be it on a queue or on blobs.
+fn is_told(rt: &(impl Abort + AllocGlobal), given: Numbers, expected: Told) -> Result<bool, Fail> {
+    let queues = Queues::new(rt.alloc());
+    let mut of_queue = Work::new(rt.alloc());
+    let settings = on_queue(rt.alloc(), "orders", given)?;
+    let told = configure(rt, &mut of_queue, &queues, "f", &settings)?;
+    let mut of_blobs = Work::new(rt.alloc());
+    let other = configure(rt, &mut of_blobs, &queues, "f", &on_blobs(given))?;
+    Ok(told == expected && other == expected)
+}
+
+#[test]
+fn ranges_are_tested_in_order(rt: HostRuntime) -> Result<(), Fail> {
+    let rows = [
+        ([1, 0, 1, 0, 0], new(1)),
+        ([32, 1000, 1000, 604800, 60], new(1)),
+        ([1, 0, 1, 0, 15], new(1)),
+        ([0, 0, 1, 0, 0], outside(0, 1, 32)),
+        ([33, 0, 1, 0, 0], outside(33, 1, 32)),
+        ([1, 1001, 1, 0, 0], outside(1001, 0, 1000)),
+        ([1, 0, 0, 0, 0], outside(0, 1, 1000)),
+        ([1, 0, 1001, 0, 0], outside(1001, 1, 1000)),
+        ([1, 0, 1, 604801, 0], outside(604801, 0, 604800)),
+        ([1, 0, 1, 0, 1], outside(1, 15, 60)),
+        ([1, 0, 1, 0, 14], outside(14, 15, 60)),
+        ([1, 0, 1, 0, 61], outside(61, 15, 60)),
+        ([0, 1001, 0, 604801, 61], outside(0, 1, 32)),
+        ([1, 1001, 0, 604801, 61], outside(1001, 0, 1000)),
+        ([1, 0, 0, 604801, 61], outside(0, 1, 1000)),
+        ([1, 0, 1, 604801, 61], outside(604801, 0, 604800)),
+    ];
+    for (given, expected) in rows {
+        assert!(&rt; is_told(&rt, of_numbers(given), expected)?);
+    }
+    Ok(())
+}
+
+#[test]
+fn a_queue_needs_a_name(rt: HostRuntime) -> Result<(), Fail> {
+    let mut work = Work::new(rt.alloc());
+    let queues = Queues::new(rt.alloc());
+    let settings = on_queue(rt.alloc(), "Orders", of_numbers([0, 0, 0, 0, 0]))?;
+    let told = configure(&rt, &mut work, &queues, "f", &settings)?;
+    assert_eq!(&rt; told, Told::Refused(Rule::BadName));
+    assert!(&rt; work.function_of("f").is_none());
+    Ok(())
+}
+
+#[test]
+fn a_function_keeps_its_number(rt: HostRuntime) -> Result<(), Fail> {
+    let mut work = Work::new(rt.alloc());
+    let queues = Queues::new(rt.alloc());
+    let first = on_queue(rt.alloc(), "orders", usual())?;
+    let other = on_queue(rt.alloc(), "orders", of_numbers([1, 8, 5, 0, 0]))?;
+    let steps = [
+        ("b", &first, new(1)),
+        ("a", &first, new(2)),
+        ("b", &first, Told::Same),
+        ("b", &other, new(1)),
+        ("a", &first, Told::Same),
+        ("c", &other, new(3)),
+    ];
+    for (function, settings, expected) in steps {
+        let told = configure(&rt, &mut work, &queues, function, settings)?;
+        assert_eq!(&rt; told, expected);
+    }
+    Ok(())
+}
+
+#[test]
+fn an_inner_queue_has_the_number_in_its_name(rt: HostRuntime) -> Result<(), Fail> {
+    let inner = inner_queue(rt.alloc(), 1)?;
+    assert!(&rt; inner.as_bytes() == b"webjobs-blobtrigger-1".as_slice());
+    Ok(())
+}
+
+#[test]
+fn what_is_let_go_leaves_the_work(rt: HostRuntime) -> Result<(), Fail> {
+    let mut work = Work::new(rt.alloc());
+    let queues = Queues::new(rt.alloc());
+    let settings = on_blobs(usual());
+    let ask = WorkAsk::Configure {
+        function: "f",
+        settings: &settings,
+    };
+    let blobs = Blobs::new(rt.alloc());
+    let leases = Leases::new(rt.alloc());
+    let plan = work.plan(rt.alloc(), &ask, &queues, &blobs, &leases, start()?)?;
+    let staged = work.stage(plan.work)?;
+    work.unstage(staged);
+    assert!(&rt; work.function_of("f").is_none());
+    let (nothing, makes) = done(&rt, &mut work, &queues, &WorkAsk::Nothing)?;
+    assert!(&rt; matches!(nothing, WorkDone::Nothing) && !makes);
+    Ok(())
+}
