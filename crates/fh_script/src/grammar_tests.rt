@@ -1,16 +1,20 @@
 use super::*;
 use fh_event::Command;
+use std::alloc::Global;
 use std::test::Fail;
 
 // A line as a test writes it: the variant's name and its fields in order, or the fault.
 fn shown(rt: &HostRuntime, line: &[u8]) -> Result<String, Fail> {
     let alloc = rt.alloc();
-    let command = match line_ask(alloc, line) {
-        Ok(LineAsk::Blank) => return Ok(String::from_str(alloc, "blank")?),
-        Ok(LineAsk::At { ms }) => return Ok(format!(in alloc; "at {ms}")?),
-        Ok(LineAsk::Ask(command)) => command,
-        Err(fault) => return Ok(format!(in alloc; "{fault:?}")?),
-    };
+    match line_ask(alloc, line) {
+        Ok(LineAsk::Blank) => Ok(String::from_str(alloc, "blank")?),
+        Ok(LineAsk::At { ms }) => Ok(format!(in alloc; "at {ms}")?),
+        Ok(LineAsk::Ask(command)) => command_shown(alloc, &command),
+        Err(fault) => Ok(format!(in alloc; "{fault:?}")?),
+    }
+}
+
+fn command_shown(alloc: Global, command: &Command) -> Result<String, Fail> {
     let shown = match command {
         Command::MakeQueue { queue } => format!(in alloc; "MakeQueue [{}]", queue.as_str())?,
         Command::Put {
