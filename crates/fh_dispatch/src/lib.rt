@@ -28,7 +28,7 @@ pub use done::WorkDone;
 pub use function::Function;
 pub use laws::{
     functions_are_as_configured, numbers_are_given_in_turn, numbers_are_kept, other_functions_stay,
-    parts_stay_whole,
+    parts_stay_whole, same_settings_are_equal,
 };
 pub use queues::inner_queue;
 pub use work::Work;
