@@ -14,7 +14,7 @@ use Rattle.fh_timers.specs.declared.done.TimerDone.TheVariants as done
 use Rattle.fh_timers.specs.Part.{TimerPart, no_timers, row_of}
 use Rattle.fh_timers.specs.Acts.{acted}
 use Rattle.fh_timers.specs.Outcome.{next_time, missed, due, new_row, after_run, watching, arming_found, running, ticking_found, acting, made_by, outcome}
-use Rattle.fh_timers.specs.Laws.{IsRising, IsWhole, OfEachAsk, StaysWhole, is_about, schedule_given, due_time, IsDueBetween, RaisesDueTimes, IsTimeGiven, next_of, KeepsSchedules, KeepsLater, KeepsOthers}
+use Rattle.fh_timers.specs.Laws.{IsRising, IsWhole, OfEachAsk, StaysWhole, schedule_given, IsDueBetween, RaisesDueTimes, IsTimeGiven, next_of, KeepsSchedules, KeepsLater, KeepsOthers}
 use Rattle.fh_timers.proofs.Numbering.{same_number, row_of-set, row_of-removed, row_of-number}
 use Rattle.fh_timers.proofs.Times.{next_time-later, next_time-scheduled, missed-is, due-is}
 
@@ -64,7 +64,7 @@ module _ (P : TimerAsk → Act → TimerDone → Type 0) (part : TimerPart) (m :
       → Way P part (asks.Arm f s startup true false) after answer
   by_watching f s startup row (Some time) stands over is =
       way (asks.Arm f s startup true false) _ _
-          (ways.makes_up f s startup row time (ready f row time stands (missed-is m row.next time over))) is
+      (ways.makes_up f s startup row time (ready f row time stands (missed-is m row.next time over))) is
   by_watching f s false row None stands over is = absurd (cc)
   by_watching f s true row None stands over is = way (asks.Arm f s true true false) _ _ (ways.starts f s row) is
 
@@ -175,12 +175,12 @@ module _ (part : TimerPart) (m : ℕ) (h : IsWhole part) (within : m ≤ greates
   raised g s row time is f due about same =
       let one : time ≡ due = cc in
       let here : row_of f part.timers ≡ Some row =
-          ap (λ n. row_of n part.timers) (sym (same_number g f about)) ∙ is.stands in
+      ap (λ n. row_of n part.timers) (sym (same_number g f about)) ∙ is.stands in
       let rising : IsRising row = subst (λ (found : Option TimerRow). IfSome found IsRising) here (h f) in
-      let later : row_of f (acted part (acts.Set (after_run row time s m))).timers ≡ Some (after_run row time s m) =
-      row_of-set (after_run row time s m) part f
-          ∙ ap (λ b. if b then Some (after_run row time s m) else row_of f part.timers)
-          (ap (λ n. n == f) is.number ∙ about) in
+      let new = after_run row time s m in
+      let later : row_of f (acted part (acts.Set new)).timers ≡ Some new =
+      row_of-set new part f
+      ∙ ap (λ b. if b then Some new else row_of f part.timers) (ap (λ n. n == f) is.number ∙ about) in
       rw (here, later) (record {
         stored = is.stored ∙ same;
         rises = above_last row due rising (is.stored ∙ same);
@@ -210,23 +210,26 @@ module _ (part : TimerPart) (m : ℕ) (within : m ≤ greatest_moment) where
   abbrev Scheduled : TimerAsk → Act → TimerDone → Type 0
   Scheduled ask act answer = KeepsSchedules part m ask (acted part act) answer
 
+  -- the time was stored before, or it is one of the schedule that is given
+  abbrev Origin : ℕ → ℕ → Option Schedule → Type 0
+  Origin f time given = (next_of (row_of f part.timers) ≡ Some time) ⊎ IsTimeGiven given m time
+
   set_scheduled : (row : TimerRow) (s : Schedule) → row.next ≡ next_time s m → (f time : ℕ)
       → next_of (row_of f (acted part (acts.Set row)).timers) ≡ Some time
-      → (next_of (row_of f part.timers) ≡ Some time) ⊎ IsTimeGiven (if row.function == f then Some s else None) m time
+      → Origin f time (if row.function == f then Some s else None)
   set_scheduled row s given f time is = by_test (row.function == f) (sym (ap next_of (row_of-set row part f)) ∙ is)
     where
       by_test : (b : Bool) → next_of (if b then Some row else row_of f part.timers) ≡ Some time
-          → (next_of (row_of f part.timers) ≡ Some time) ⊎ IsTimeGiven (if b then Some s else None) m time
+          → Origin f time (if b then Some s else None)
       by_test true same = inr (next_time-scheduled s m time within (sym given ∙ same))
       by_test false same = inl same
 
   run_scheduled : (g : ℕ) (s : Schedule) (row : TimerRow) (last : ℕ) → IsReady part m g row last → (f time : ℕ)
       → next_of (row_of f (acted part (acts.Set (after_run row last s m))).timers) ≡ Some time
-      → (next_of (row_of f part.timers) ≡ Some time) ⊎ IsTimeGiven (if g == f then Some s else None) m time
+      → Origin f time (if g == f then Some s else None)
   run_scheduled g s row last ready f time is =
-      subst (λ (n : ℕ). (next_of (row_of f part.timers) ≡ Some time)
-          ⊎ IsTimeGiven (if n == f then Some s else None) m time) ready.number (set_scheduled
-          (after_run row last s m) s refl f time is)
+      subst (λ (n : ℕ). Origin f time (if n == f then Some s else None)) ready.number
+      (set_scheduled (after_run row last s m) s refl f time is)
 
   removed_next : (found : Option TimerRow) (time : ℕ) (b : Bool) → next_of (if b then None else found) ≡ Some time
       → next_of found ≡ Some time

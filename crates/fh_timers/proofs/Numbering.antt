@@ -1,5 +1,5 @@
 -- The row of a function after a row is set or removed.
-use Rattle.std.proofs.Common.{◌≡◌, ℕ, Bool, true, false, List, Option, Some, None, refl, sym, ap, ◌∙◌, rules, arith}
+use Rattle.std.proofs.Common.{◌≡◌, ℕ, Bool, true, false, Some, None, refl, sym, ◌∙◌, rules, arith}
 use Rattle.std.specs.Prelude.{◌==◌, if◌then◌else◌}
 use Rattle.std.specs.Cmp.{IsTotalOrder, unsigned_tied}
 use Rattle.std.specs.Cmp.Rules.{comparing}
@@ -36,10 +36,10 @@ row_of-set row part f = by_test (row.function == f) refl
         → row_of f (acted part (Set row)).timers ≡ (if b then Some row else row_of f part.timers)
     by_test true is =
         row_at-with_same (λ (a b : TimerRow). by_function b.function a) total row (numbered f) part.timers
-            (equal (nat_cmp row.function f) (unsigned_tied row.function f ∙ is))
+        (equal (nat_cmp row.function f) (unsigned_tied row.function f ∙ is))
     by_test false is =
         row_at-with_other (λ (a b : TimerRow). by_function b.function a) total row (numbered f) part.timers
-            (unsigned_tied row.function f ∙ is)
+        (unsigned_tied row.function f ∙ is)
 
 pub row_of-removed : (g : ℕ) (part : TimerPart) (f : ℕ)
     → row_of f (acted part (Remove g)).timers ≡ (if g == f then None else row_of f part.timers)
@@ -50,13 +50,13 @@ row_of-removed g part f = by_test (g == f) refl
         → row_of f (acted part (Remove g)).timers ≡ (if b then None else row_of f part.timers)
     by_test true is =
         row_at-without_same (λ (a b : TimerRow). by_function b.function a) total (numbered g) (numbered f) part.timers
-            (equal (nat_cmp g f) (unsigned_tied g f ∙ is))
+        (equal (nat_cmp g f) (unsigned_tied g f ∙ is))
     by_test false is =
         row_at-without_other (λ (a b : TimerRow). by_function b.function a) total (numbered g) (numbered f) part.timers
-            (unsigned_tied g f ∙ is)
+        (unsigned_tied g f ∙ is)
 
 -- the row of a function has its number
 pub row_of-number : (f : ℕ) (part : TimerPart) (row : TimerRow) → row_of f part.timers ≡ Some row → row.function ≡ f
 row_of-number f part row is =
     same_number row.function f
-        (sym (unsigned_tied row.function f) ∙ find-passes (λ r. is_eq (by_function f r)) part.timers row is)
+    (sym (unsigned_tied row.function f) ∙ find-passes (λ r. is_eq (by_function f r)) part.timers row is)

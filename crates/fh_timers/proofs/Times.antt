@@ -1,10 +1,10 @@
 -- The next time of a schedule, and stored next times that are over or have come.
-use Rattle.std.proofs.Common.{◌≡◌, ℕ, ◌*◌, ◌/◌, ◌<◌, ◌≤◌, Bool, true, false, Option, Some, None, refl, sym, ap, ◌∙◌, pos, arith}
+use Rattle.std.proofs.Common.{◌≡◌, ℕ, ◌*◌, ◌/◌, ◌<◌, ◌≤◌, Bool, true, false, Option, Some, None, refl, arith}
 use Rattle.std.specs.Prelude.{nat_le, nat_lt, if◌then◌else◌, option_map, IfSome}
 use Rattle.std.proofs.lemmas.Bool.Decides.{nat_tests}
 use Rattle.fh_base.specs.Moments.{greatest_moment}
 use Rattle.fh_ncrontab.specs.declared.schedule.Schedule.{Schedule}
-use Rattle.fh_ncrontab.specs.Schedule.{next, last_second, IsNext}
+use Rattle.fh_ncrontab.specs.Schedule.{next, IsNext}
 use Rattle.fh_ncrontab.proofs.NextLemmas.{next-least}
 use Rattle.fh_timers.specs.Outcome.{next_time, missed, due}
 use Rattle.fh_timers.specs.Laws.{IsTimeOf}

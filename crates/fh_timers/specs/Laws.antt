@@ -49,8 +49,8 @@ due_time (PastDue due next) = Some due
 due_time (Ticked due next) = Some due
 due_time answer = None
 
--- the due time is the next one of the row before, after its last one; then it is the last one, and the next one is
--- after the moment, which is not before it
+-- the due time is the stored next one, after the last one, and has come; then it is the last one, and the next one
+-- is after the moment
 pub record IsDueAt (m due : ℕ) (row later : TimerRow) : Type 0 where
   pub stored : row.next ≡ Some due
   pub rises : IfSome row.last (λ last. last < due)

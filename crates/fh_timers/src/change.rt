@@ -41,7 +41,8 @@ impl TimerChange {
 
     /// Whether it was accepted and changes nothing.
     pub fn is_quiet(&self) -> bool
-        ensures quiet { (part : TimerPart) → result ≡ true → planned part self.now ≡ Quiets self.now.done }
+        ensures quiet { (part : TimerPart) → result ≡ true
+            → planned part self.now ≡ Quiets self.now.done }
         ensures loud { (part : TimerPart) → result ≡ false
             → planned part self.now ≡ Makes (acted part self.now.act) self.now.done }
     {

@@ -40,7 +40,8 @@ pub(crate) struct Number {
 impl Key<TimerRow> for Number {
     ghost use Rattle.std.specs.Prelude.{None};
 
-    ghost as_row = { λ key. record { function = key.function; last = None; next = None; updated = 0 } };
+    ghost as_row = { λ key.
+        record { function = key.function; last = None; next = None; updated = 0 } };
 
     fn compare(&self, row: &TimerRow) -> Ordering {
         row.function.cmp(&self.function)
