@@ -57,6 +57,21 @@ fn answer<J: Disk>(
     }
 }
 
+// The step is answered so.
+fn expect<J: Disk>(
+    alloc: Global,
+    hub: &mut Hub<'_, J>,
+    command: Command,
+    now: u64,
+    expected: &str,
+) -> Result<(), Fail> {
+    let found = answer(alloc, hub, &command, now)?;
+    if found.as_str() != expected {
+        return Err(Fail::from("another answer"));
+    }
+    Ok(())
+}
+
 fn mounted<'d>(alloc: Global, disk: &'d mut MemoryDisk) -> Result<Hub<'d, MemoryDisk>, Fail> {
     match Hub::mount(alloc, disk) {
         Ok(hub) => Ok(hub),
@@ -116,18 +131,19 @@ fn each_kind_of_step_is_answered_and_replayed(rt: HostRuntime) -> Result<(), Fai
     Ok(())
 }
 
+// Puts a message and takes it at the moment 1000.
+fn hold_one<J: Disk>(alloc: Global, hub: &mut Hub<'_, J>) -> Result<(), Fail> {
+    expect(alloc, hub, make(alloc)?, 1000, "ok")?;
+    expect(alloc, hub, put(alloc, "hi")?, 1000, "ok 1 1")?;
+    expect(alloc, hub, take(alloc)?, 1000, "ok 1 1:2:1:hi")
+}
+
 #[test]
 fn places_of_messages(rt: HostRuntime) -> Result<(), Fail> {
     let alloc = rt.alloc();
-    let mut disk = disk_of(alloc, b"", 999)?;
+    let mut disk = disk_of(alloc, b"", 99)?;
     let mut hub = mounted(alloc, &mut disk)?;
-    for (command, expected) in [
-        (make(alloc)?, "ok"),
-        (put(alloc, "a")?, "ok 1 1"),
-        (take(alloc)?, "ok 1 1:2:1:a"),
-    ] {
-        assert_eq!(rt; answer(alloc, &mut hub, &command, 1000)?.as_str(), expected);
-    }
+    hold_one(alloc, &mut hub)?;
     let before = hub.place_of(1, 0);
     assert!(rt; matches!(before, Place::Held { until: 31000, .. }));
     let after = hub.place_of(1, 31000);
@@ -135,21 +151,6 @@ fn places_of_messages(rt: HostRuntime) -> Result<(), Fail> {
     let unborn = hub.place_of(2, 0);
     assert!(rt; matches!(unborn, Place::Unknown));
     hub.close();
-    Ok(())
-}
-
-// The step is answered so.
-fn expect<J: Disk>(
-    alloc: Global,
-    hub: &mut Hub<'_, J>,
-    command: Command,
-    now: u64,
-    expected: &str,
-) -> Result<(), Fail> {
-    let found = answer(alloc, hub, &command, now)?;
-    if found.as_str() != expected {
-        return Err(Fail::from("another answer"));
-    }
     Ok(())
 }
 
@@ -171,14 +172,19 @@ fn steps_that_record_nothing_make_no_call(rt: HostRuntime) -> Result<(), Fail> {
     Ok(())
 }
 
+// The step may fail.
+fn try_step<J: Disk>(alloc: Global, hub: &mut Hub<'_, J>, command: Command) {
+    let _step = hub.step(alloc, &command, 0);
+}
+
 #[test]
 fn a_stop_in_an_append(rt: HostRuntime) -> Result<(), Fail> {
     let alloc = rt.alloc();
     for passed in 1..5 {
         let mut disk = disk_of(alloc, b"", MOUNT + APPEND + passed)?;
         let mut hub = mounted(alloc, &mut disk)?;
-        assert_eq!(rt; answer(alloc, &mut hub, &make(alloc)?, 0)?.as_str(), "ok");
-        let _step = hub.step(alloc, &put(alloc, "hi")?, 0);
+        expect(alloc, &mut hub, make(alloc)?, 0, "ok")?;
+        try_step(alloc, &mut hub, put(alloc, "hi")?);
         let disk = hub.close();
         for choice in 0..8 {
             let mut image = disk_of(alloc, &disk.image(alloc, choice)?, 99)?;
