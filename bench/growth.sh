@@ -6,10 +6,11 @@
 # and put another one. What counts is the time in user mode of the best round, less that of the same run with
 # no turns; the kernel's time is left out. A mounted entry is timed by as many runs that answer no line as make
 # 100,000 entries, less as many runs over an empty journal. The last lines are the ratios of the last store to
-# the first. TMPDIR should name a folder in memory, and the machine be idle.
+# the first. TMPDIR should name a folder in memory, and the machine be idle: with few turns the ratios differ by a
+# third from run to run.
 set -eu
 top=$(cd "$(dirname "$0")/.." && pwd)
-turns=${1:-50000}
+turns=${1:-300000}
 rounds=${2:-5}
 folder=$(mktemp -d "${TMPDIR:-/tmp}/growth.XXXXXX")
 trap 'rm -rf "$folder"' EXIT
