@@ -1,18 +1,22 @@
 -- A field that is read is the field that was written, and what was written is read again.
-use Rattle.std.proofs.Common.{◌≡◌, ℕ, zero, suc, ◌^◌, ◌<◌, ◌≤◌, Bool, true, false, cond, ltb, List, [], ◌∷◌, ◌++◌, length, take, drop, Option, Some, None, Result, Ok, Err, refl, sym, ap, subst, ◌∙◌, arith, length-append, length-take}
-use Rattle.std.specs.Prelude.{IfSome}
+use Rattle.std.proofs.Common.{◌≡◌, ℕ, zero, suc, ◌^◌, ◌<◌, ◌≤◌, Bool, true, false, cond, ltb, List, [], ◌∷◌, ◌++◌, length, take, drop, Option, Some, None, Result, Ok, Err, refl, sym, ap, subst, ◌∙◌, append_assoc, arith, length-append, length-take}
+use Rattle.std.specs.Prelude.{◌+◌, ◌%◌, ◌==◌, nat_lt, not, IfSome, ⊤}
+use Rattle.std.specs.List.{flat_map, AllByRecursion}
 use Rattle.std.specs.Str.{is_utf8}
 use Rattle.std.specs.Int.{Width, w32, w64, byte_len, from_be_bytes, to_be_bytes}
-use Rattle.std.proofs.lemmas.Bool.{ltb-false, le-ltb}
+use Rattle.std.proofs.lemmas.Bool.{ltb-true, ltb-false, le-ltb}
 use Rattle.std.proofs.lemmas.List.{take_at, drop_at, take-append-drop}
 use Rattle.std.proofs.lemmas.Nat.{be_bytes_4, be_bytes_8, from_be_bytes-to_be_bytes_4, from_be_bytes-to_be_bytes_8}
+use Rattle.std.proofs.Math.Pow.{pow_mono}
 use Rattle.std.proofs.lemmas.Str.{IsUtf8-from_is_utf8, is_utf8-from_IsUtf8}
 use Rattle.fh_event.specs.declared.faults.EventFault.{EventFault}
 use Rattle.fh_event.specs.declared.faults.EventFault.TheVariants.{ShortField, LongField, BadField}
-use Rattle.fh_event.specs.Fields.{number_bytes, text_bytes, maybe_bytes, IsText}
+use Rattle.fh_event.specs.Fields.{number_bytes, text_bytes, maybe_bytes, flag_byte, IsText}
 use Rattle.fh_base.specs.Limits.{longest_payload}
-use Rattle.fh_event.specs.Reading.{byte_at, number_at, text_of_length, text_at, flag_at, behind_flag, maybe_at}
-use Rattle.fh_event.proofs.Steps.{bind_ok, passed, ended, ok_is, IsBytes, IsBytes-drop, IsBytes-take, IsBytes-rest, Takes, Takes-then, Takes-one}
+use Rattle.fh_event.specs.Answers.{◌>>=◌}
+use Rattle.fh_event.specs.Masks.{is_mask, schedule_ranges, are_masks}
+use Rattle.fh_event.specs.Reading.{byte_at, number_at, mask_at, masks_at, text_of_length, text_at, flag_at, behind_flag, maybe_at}
+use Rattle.fh_event.proofs.Steps.{bind_ok, passed, ended, both_are, ok_is, IsBytes, IsBytes-drop, IsBytes-take, IsBytes-rest, Takes, Takes-then, Takes-one}
 
 -- ---- numbers
 
@@ -141,12 +145,64 @@ texts field = record {
   again = λ text rest h. text_again field text rest h;
 }
 
--- ---- values behind a first byte
+-- ---- masks
 
--- the byte of a flag
-abbrev flag_byte : Bool → ℕ
-flag_byte false = 0
-flag_byte true = 1
+mask_takes : (low high field : ℕ) (bytes : List ℕ) (x : ℕ × List ℕ) → IsBytes bytes → mask_at low high field bytes ≡ Ok x
+    → Takes bytes (number_bytes x.0) x.1 × (is_mask low high x.0 ≡ true)
+unfolding mask_at
+mask_takes low high field bytes x fits e =
+    let b = bind_ok (number_at w64 field bytes) (λ n. cond (is_mask low high n.0) (Ok n) (Err (BadField field))) x e in
+    let t = (numbers field).takes bytes b.0 fits b.1 in
+    let g = ended (is_mask low high b.0.0) (BadField field) b.0 x b.2 in
+    subst (λ (y : ℕ × List ℕ). Takes bytes (number_bytes y.0) y.1 × (is_mask low high y.0 ≡ true)) g.1 (t.0, g.0)
+
+-- a mask of a field of numbers below 64 has eight bytes
+mask_fits : (low high mask : ℕ) → high < 64 → is_mask low high mask ≡ true → mask < 2 ^ 64
+unfolding is_mask
+mask_fits low high mask few is =
+    let below = ltb-true mask (2 ^ (high + 1)) (both_are (mask % 2 ^ low == 0) (nat_lt mask (2 ^ (high + 1))) (both_are (not (mask == 0)) _ is).1).1 in
+    omega (arith, below, pow_mono {i = high + 1} {j = 64} (omega arith))
+
+mask_again : (low high field mask : ℕ) (rest : List ℕ) → high < 64 → is_mask low high mask ≡ true
+    → mask_at low high field (number_bytes mask ++ rest) ≡ Ok (mask, rest)
+unfolding mask_at
+mask_again low high field mask rest few is =
+    rw ((numbers field).again mask rest (mask_fits low high mask few is), is) refl
+
+masks_take : (ranges : List (ℕ × ℕ)) (field : ℕ) (bytes : List ℕ) (x : List ℕ × List ℕ) → IsBytes bytes → masks_at ranges field bytes ≡ Ok x
+    → Takes bytes (flat_map number_bytes x.0) x.1 × (are_masks ranges x.0 ≡ true)
+masks_take [] field bytes x fits e =
+    subst (λ (y : List ℕ × List ℕ). Takes bytes (flat_map number_bytes y.0) y.1 × (are_masks [] y.0 ≡ true)) (ok_is ([], bytes) x e)
+    (record { parts = refl; rest_fits = fits }, refl)
+masks_take (range ∷ ranges) field bytes x fits e =
+    let a = bind_ok (mask_at range.0 range.1 field bytes) (λ mask. masks_at ranges field mask.1 >>= λ masks. Ok (mask.0 ∷ masks.0, masks.1)) x e in
+    let b = bind_ok (masks_at ranges field a.0.1) (λ masks. Ok (a.0.0 ∷ masks.0, masks.1)) x a.2 in
+    let first = mask_takes range.0 range.1 field bytes a.0 fits a.1 in
+    let others = masks_take ranges field a.0.1 b.0 first.0.rest_fits b.1 in
+    subst (λ (y : List ℕ × List ℕ). Takes bytes (flat_map number_bytes y.0) y.1 × (are_masks (range ∷ ranges) y.0 ≡ true)) (ok_is (a.0.0 ∷ b.0.0, b.0.1) x b.2)
+    (Takes-then bytes (number_bytes a.0.0) a.0.1 (flat_map number_bytes b.0.0) b.0.1 first.0 others.0, rw (first.1, others.1) refl)
+
+masks_again : (ranges : List (ℕ × ℕ)) (field : ℕ) (masks rest : List ℕ) → AllByRecursion (λ range. range.1 < 64) ranges → are_masks ranges masks ≡ true
+    → masks_at ranges field (flat_map number_bytes masks ++ rest) ≡ Ok (masks, rest)
+masks_again [] field [] rest few are = refl
+masks_again [] field (mask ∷ masks) rest few are = absurd cc
+masks_again (range ∷ ranges) field [] rest few are = absurd cc
+masks_again (range ∷ ranges) field (mask ∷ masks) rest few are =
+    let both = both_are (is_mask range.0 range.1 mask) (are_masks ranges masks) are in
+    rw (
+      append_assoc (number_bytes mask) (flat_map number_bytes masks) rest,
+      mask_again range.0 range.1 field mask (flat_map number_bytes masks ++ rest) few.0 both.0,
+      masks_again ranges field masks rest few.1 both.1,
+    )
+    refl
+
+pub mask_lists : (field : ℕ) → Reads (masks_at schedule_ranges field) (flat_map number_bytes) (λ masks. are_masks schedule_ranges masks ≡ true)
+mask_lists field = record {
+  takes = λ bytes x fits e. masks_take schedule_ranges field bytes x fits e;
+  again = λ masks rest h. masks_again schedule_ranges field masks rest (omega arith, (omega arith, (omega arith, (omega arith, (omega arith, (omega arith, tt)))))) h;
+}
+
+-- ---- values behind a first byte
 
 flag_takes : (field : ℕ) (bytes : List ℕ) (x : Bool × List ℕ) → IsBytes bytes → flag_at field bytes ≡ Ok x
     → Takes bytes (flag_byte x.0 ∷ []) x.1
@@ -164,6 +220,12 @@ flag_again : (field : ℕ) (flag : Bool) (rest : List ℕ) → flag_at field (fl
 unfolding flag_at
 flag_again field false rest = refl
 flag_again field true rest = refl
+
+pub flags : (field : ℕ) → Reads (flag_at field) (λ b. flag_byte b ∷ []) (λ b. ⊤)
+flags field = record {
+  takes = λ bytes x fits e. (flag_takes field bytes x fits e, tt);
+  again = λ b rest h. flag_again field b rest;
+}
 
 behind_takes : {X : Type 0} (reader : List ℕ → Result (X × List ℕ) EventFault) (bytes_of : X → List ℕ) (Fits : X → Type 0)
     → Reads reader bytes_of Fits → (flag : Bool) (bytes : List ℕ) (x : Option X × List ℕ) → IsBytes bytes

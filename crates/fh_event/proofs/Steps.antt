@@ -1,5 +1,6 @@
 -- Steps of a reading that did not fail, and what a reader took from the front.
 use Rattle.std.proofs.Common.{◌≡◌, ℕ, suc, ◌+◌, ◌<◌, Bool, true, false, cond, List, ◌∷◌, ◌++◌, get_or, take, drop, Result, Ok, Err, refl, sym, ap, ◌∙◌, append_assoc, arith, inl, inr}
+use Rattle.std.specs.Prelude.{◌&&◌}
 use Rattle.std.proofs.lemmas.Bool.{cases_lt}
 use Rattle.std.proofs.lemmas.List.{length-take, get_or-drop, get_or-take, get_or_past}
 use Rattle.fh_event.specs.declared.faults.EventFault.{EventFault}
@@ -21,6 +22,10 @@ passed false d r y e = (refl, e)
 pub ended : {A : Type 0} (b : Bool) (d : EventFault) (x y : A) → cond b (Ok x) (Err d) ≡ Ok y → (b ≡ true) × (x ≡ y)
 ended true d x y e = (refl, cc)
 ended false d x y e = absurd cc
+
+pub both_are : (a b : Bool) → (a && b) ≡ true → (a ≡ true) × (b ≡ true)
+both_are true b is = (refl, is)
+both_are false b is = absurd cc
 
 abbrev done : {A : Type 0} → A → Result A EventFault
 done x = Ok x

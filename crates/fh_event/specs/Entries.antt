@@ -1,9 +1,11 @@
 -- The grammar of entries.
-use Rattle.std.specs.Prelude.{◌≡◌, ℕ, ◌≤◌, List, ◌∷◌, ◌++◌}
+use Rattle.std.specs.Prelude.{◌≡◌, ⊤, ℕ, ◌≤◌, List, ◌∷◌, ◌++◌}
 use Rattle.std.specs.List.{flat_map, AllByRecursion}
 use Rattle.fh_base.specs.Moments.{greatest_moment}
 use Rattle.fh_event.specs.declared.command.Command.{Command}
+use Rattle.fh_event.specs.declared.command.Command.TheVariants.{Configure}
 use Rattle.fh_event.specs.Fields.{number_bytes, spelled, IsField, IsShort}
+use Rattle.fh_event.specs.Settings.{HasGoodMasks}
 use Rattle.fh_event.specs.Kinds.{kind_number, kind_of, fields_of}
 
 -- the moment in eight bytes, the kind in one, and the fields
@@ -20,6 +22,11 @@ pub record IsEntry (bytes : List ℕ) (moment : ℕ) (command : Command) : Type 
 -- no text of the command is too long for an entry
 abbrev pub HasShortTexts : Command → Type 0
 HasShortTexts command = AllByRecursion IsShort (fields_of command)
+
+-- the settings that the command gives have good masks
+abbrev pub GivesGoodMasks : Command → Type 0
+GivesGoodMasks (Configure function settings) = HasGoodMasks settings
+GivesGoodMasks command = ⊤
 
 -- an entry of this moment and command stands at the end
 pub record AppendsEntry (old new : List ℕ) (moment : ℕ) (command : Command) : Type 0 where

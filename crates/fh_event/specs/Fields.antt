@@ -1,7 +1,9 @@
 -- The fields of an entry, and the one spelling of each.
-use Rattle.std.specs.Prelude.{ℕ, ◌<◌, ◌≤◌, ◌^◌, List, [], ◌∷◌, ◌++◌, length, Option, Some, None, IfSome, ⊤, IsUtf8}
+use Rattle.std.specs.Prelude.{◌≡◌, ℕ, ◌<◌, ◌≤◌, ◌^◌, Bool, true, false, List, [], ◌∷◌, ◌++◌, length, Option, Some, None, IfSome, ⊤, IsUtf8}
+use Rattle.std.specs.List.{flat_map}
 use Rattle.fh_base.specs.Limits.{longest_payload}
 use Rattle.std.specs.Int.{w32, w64, to_be_bytes}
+use Rattle.fh_event.specs.Masks.{schedule_ranges, are_masks}
 
 -- what stands in a field
 pub data Field : Type 0 where
@@ -10,6 +12,8 @@ pub data Field : Type 0 where
   maybe_number : Option ℕ → Field
   maybe_words : Option (List ℕ) → Field
   form : ℕ → Field
+  masks : List ℕ → Field
+  flag : Bool → Field
 
 -- eight bytes, the greatest place first
 unfoldable pub number_bytes : ℕ → List ℕ
@@ -24,12 +28,19 @@ unfoldable pub maybe_bytes : {X : Type 0} → (X → List ℕ) → Option X → 
 maybe_bytes bytes None = 0 ∷ []
 maybe_bytes bytes (Some x) = 1 ∷ bytes x
 
+-- the byte of a truth value
+abbrev pub flag_byte : Bool → ℕ
+flag_byte false = 0
+flag_byte true = 1
+
 abbrev pub spelled : Field → List ℕ
 spelled (number n) = number_bytes n
 spelled (words text) = text_bytes text
 spelled (maybe_number n) = maybe_bytes number_bytes n
 spelled (maybe_words text) = maybe_bytes text_bytes text
 spelled (form n) = n ∷ []
+spelled (masks numbers) = flat_map number_bytes numbers
+spelled (flag b) = flag_byte b ∷ []
 
 -- the text is UTF-8 and not too long
 pub record IsText (text : List ℕ) : Type 0 where
@@ -43,6 +54,8 @@ IsField (words text) = IsText text
 IsField (maybe_number n) = IfSome n (λ m. m < 2 ^ 64)
 IsField (maybe_words text) = IfSome text IsText
 IsField (form n) = n < 2 ^ 8
+IsField (masks numbers) = are_masks schedule_ranges numbers ≡ true
+IsField (flag b) = ⊤
 
 -- no text is too long for a field
 abbrev pub IsShort : Field → Type 0
@@ -51,3 +64,5 @@ IsShort (words text) = length text ≤ longest_payload
 IsShort (maybe_number n) = ⊤
 IsShort (maybe_words text) = IfSome text (λ t. length t ≤ longest_payload)
 IsShort (form n) = ⊤
+IsShort (masks numbers) = ⊤
+IsShort (flag b) = ⊤

@@ -1,7 +1,7 @@
 -- The kinds of commands: the number of each, and its fields.
 use Rattle.std.specs.Prelude.{ℕ, ◌==◌, List, [], ◌∷◌, Option, find}
 use Rattle.fh_event.specs.declared.command.Command.{Command}
-use Rattle.fh_event.specs.declared.command.Command.TheVariants.{MakeQueue, Put, Take, Update, Delete, Clear, PutBlob, DeleteBlob, Note, Acquire, RenewLease, ReleaseLease, Configure, Peek, GetBlob, Locate, Unnoted}
+use Rattle.fh_event.specs.declared.command.Command.TheVariants.{MakeQueue, Put, Take, Update, Delete, Clear, PutBlob, DeleteBlob, Note, Acquire, RenewLease, ReleaseLease, Configure, Arm, Tick, Peek, GetBlob, Locate, Unnoted}
 use Rattle.fh_event.specs.declared.tables.FieldType.{FieldType}
 use Rattle.fh_event.specs.declared.tables.FieldType.TheVariants.{Number, Words, MaybeNumber, MaybeWords, Settings}
 use Rattle.fh_event.specs.declared.settings.FunctionSettings.{FunctionSettings}
@@ -23,6 +23,8 @@ pub data Kind : Type 0 where
   renew_lease : Kind
   release_lease : Kind
   configure : Kind
+  arm : Kind
+  tick : Kind
   peek : Kind
   get_blob : Kind
   locate : Kind
@@ -43,6 +45,8 @@ kind_number acquire = 10
 kind_number renew_lease = 11
 kind_number release_lease = 12
 kind_number configure = 13
+kind_number arm = 15
+kind_number tick = 16
 kind_number peek = 21
 kind_number get_blob = 22
 kind_number locate = 23
@@ -62,6 +66,8 @@ kind_of (Acquire lease holder seconds) = acquire
 kind_of (RenewLease lease holder) = renew_lease
 kind_of (ReleaseLease lease holder) = release_lease
 kind_of (Configure function settings) = configure
+kind_of (Arm function) = arm
+kind_of (Tick function) = tick
 kind_of (Peek queue count) = peek
 kind_of (GetBlob container blob) = get_blob
 kind_of (Locate n) = locate
@@ -82,6 +88,8 @@ fields_of (Acquire lease holder seconds) = words lease ∷ number holder ∷ num
 fields_of (RenewLease lease holder) = words lease ∷ number holder ∷ []
 fields_of (ReleaseLease lease holder) = words lease ∷ number holder ∷ []
 fields_of (Configure function settings) = words function ∷ fields_of_settings settings
+fields_of (Arm function) = words function ∷ []
+fields_of (Tick function) = words function ∷ []
 fields_of (Peek queue count) = words queue ∷ number count ∷ []
 fields_of (GetBlob container blob) = words container ∷ words blob ∷ []
 fields_of (Locate n) = number n ∷ []
@@ -90,7 +98,7 @@ fields_of (Unnoted function container) = words function ∷ words container ∷ 
 abbrev pub all_kinds : List Kind
 all_kinds =
     make_queue ∷ put ∷ take ∷ update ∷ delete ∷ clear ∷ put_blob ∷ delete_blob ∷ note ∷ acquire ∷ renew_lease ∷ release_lease
-    ∷ configure ∷ peek ∷ get_blob ∷ locate ∷ unnoted ∷ []
+    ∷ configure ∷ arm ∷ tick ∷ peek ∷ get_blob ∷ locate ∷ unnoted ∷ []
 
 -- the kind of this number
 unfoldable pub kind_at : ℕ → Option Kind
@@ -111,6 +119,8 @@ types_of acquire = Words ∷ Number ∷ Number ∷ []
 types_of renew_lease = Words ∷ Number ∷ []
 types_of release_lease = Words ∷ Number ∷ []
 types_of configure = Words ∷ Settings ∷ []
+types_of arm = Words ∷ []
+types_of tick = Words ∷ []
 types_of peek = Words ∷ Number ∷ []
 types_of get_blob = Words ∷ Words ∷ []
 types_of locate = Number ∷ []
@@ -139,6 +149,8 @@ made acquire = λ lease holder seconds. Acquire lease holder seconds
 made renew_lease = λ lease holder. RenewLease lease holder
 made release_lease = λ lease holder. ReleaseLease lease holder
 made configure = λ function settings. Configure function settings
+made arm = λ function. Arm function
+made tick = λ function. Tick function
 made peek = λ queue count. Peek queue count
 made get_blob = λ container blob. GetBlob container blob
 made locate = λ n. Locate n

@@ -1,3 +1,4 @@
+pub mod Masks
 pub mod Fields
 pub mod Tables
 pub mod Settings

@@ -1,5 +1,5 @@
 -- The lines that a script prints for replies and rules.
-use Rattle.std.specs.Prelude.{ℕ, ◌==◌, nat_le, Bool, ◌||◌, if◌then◌else◌, List, [], ◌∷◌, ◌++◌, length, codes, Result, Ok, Err}
+use Rattle.std.specs.Prelude.{ℕ, ◌==◌, nat_le, Bool, ◌||◌, if◌then◌else◌, List, [], ◌∷◌, ◌++◌, length, codes, Option, Some, None, Result, Ok, Err}
 use Rattle.std.specs.List.{flat_map}
 use Rattle.std.specs.Borrow.{Bor}
 use Rattle.std.specs.Fmt.{decimal}
@@ -11,7 +11,7 @@ use Rattle.fh_event.specs.declared.reply.Item.{Item}
 use Rattle.fh_event.specs.declared.reply.Place.{Place}
 use Rattle.fh_event.specs.declared.reply.Place.TheVariants.{Waiting, Held, Deleted as PlaceDeleted, Completed, Moved, Expired, Unknown}
 use Rattle.fh_event.specs.declared.reply.Reply.{Reply}
-use Rattle.fh_event.specs.declared.reply.Reply.TheVariants.{Made, There, Stored, Taken, Empty, Updated, Deleted, Cleared, BlobStored, BlobDeleted, Noted, NotedBefore, Acquired, Renewed, Released, Configured, Same, Peeked, Got, Located, Unnoted}
+use Rattle.fh_event.specs.declared.reply.Reply.TheVariants.{Made, There, Stored, Taken, Empty, Updated, Deleted, Cleared, BlobStored, BlobDeleted, Noted, NotedBefore, Acquired, Renewed, Released, Configured, Same, Armed, PastDue, Ticked, Running, Unarmed, NotDue, Peeked, Got, Located, Unnoted}
 
 -- a control character, a space, a percent sign, or a byte outside ASCII
 abbrev pub is_escaped : ℕ → Bool
@@ -29,6 +29,11 @@ escaped (b ∷ bytes) = flat_map escaped_byte (b ∷ bytes)
 -- a number behind a space
 abbrev pub spaced : ℕ → List ℕ
 spaced n = codes " " ++ decimal n
+
+-- a time behind a space, where there is one, or a dash
+abbrev pub spaced_time : Option ℕ → List ℕ
+spaced_time None = codes " -"
+spaced_time (Some time) = spaced time
 
 abbrev pub rule_values : Rule → List ℕ
 rule_values MomentTooLate = []
@@ -92,6 +97,12 @@ reply_line (Renewed until) = codes "ok" ++ spaced until
 reply_line Released = codes "ok"
 reply_line (Configured n) = codes "ok" ++ spaced n
 reply_line Same = codes "quiet same"
+reply_line (Armed next) = codes "ok armed" ++ spaced_time next
+reply_line (PastDue due next) = codes "ok pastdue" ++ spaced due ++ spaced_time next
+reply_line (Ticked due next) = codes "ok ticked" ++ spaced due ++ spaced_time next
+reply_line Running = codes "quiet running"
+reply_line Unarmed = codes "quiet unarmed"
+reply_line NotDue = codes "quiet notdue"
 reply_line (Peeked items) = codes "is" ++ spaced (length items) ++ flat_map peeked_item items
 reply_line (Got version text) = codes "is" ++ spaced version ++ codes " " ++ escaped text
 reply_line (Located place) = place_line place

@@ -13,7 +13,8 @@ use Rattle.fh_event.specs.Answers.{◌>>=◌}
 use Rattle.fh_base.specs.Limits.{longest_payload}
 use Rattle.fh_event.specs.declared.settings.FunctionSettings.{FunctionSettings}
 use Rattle.fh_event.specs.Tables.{Taking}
-use Rattle.fh_event.specs.Settings.{Form, form_at, PlainType, number_type, words_type, HeldPlain, types_of_form, made_settings}
+use Rattle.fh_event.specs.Masks.{is_mask, schedule_ranges}
+use Rattle.fh_event.specs.Settings.{Form, form_at, PlainType, number_type, words_type, masks_type, flag_type, HeldPlain, types_of_form, made_settings}
 use Rattle.fh_event.specs.Kinds.{Kind, kind_at, types_of, Held, made}
 
 unfoldable pub byte_at : ℕ → List ℕ → Result (ℕ × List ℕ) EventFault
@@ -44,6 +45,20 @@ flag_at field (zero ∷ rest) = Ok (false, rest)
 flag_at field (suc zero ∷ rest) = Ok (true, rest)
 flag_at field (suc (suc b) ∷ rest) = Err (BadField field)
 
+-- a number that is a mask of the field from low to high
+unfoldable pub mask_at : ℕ → ℕ → ℕ → List ℕ → Result (ℕ × List ℕ) EventFault
+mask_at low high field bytes = do
+  n ← number_at w64 field bytes
+  if is_mask low high n.0 then Ok n else Err (BadField field)
+
+-- one mask for each field of a schedule
+abbrev pub masks_at : List (ℕ × ℕ) → ℕ → List ℕ → Result (List ℕ × List ℕ) EventFault
+masks_at [] field bytes = Ok ([], bytes)
+masks_at (range ∷ ranges) field bytes = do
+  mask ← mask_at range.0 range.1 field bytes
+  masks ← masks_at ranges field mask.1
+  Ok (mask.0 ∷ masks.0, masks.1)
+
 abbrev pub behind_flag : {X : Type 0} → (List ℕ → Result (X × List ℕ) EventFault) → Bool → List ℕ → Result (Option X × List ℕ) EventFault
 behind_flag reader false rest = Ok (None, rest)
 behind_flag reader true rest = reader rest >>= λ x. Ok (Some x.0, x.1)
@@ -62,6 +77,8 @@ taken_at held step (type ∷ types) taking field bytes =
 abbrev pub plain_at : (type : PlainType) → ℕ → List ℕ → Result (HeldPlain type × List ℕ) EventFault
 plain_at number_type field bytes = number_at w64 field bytes
 plain_at words_type field bytes = text_at field bytes
+plain_at masks_type field bytes = masks_at schedule_ranges field bytes
+plain_at flag_type field bytes = flag_at field bytes
 
 abbrev pub settings_of_form : ℕ → Option Form → List ℕ → Result (FunctionSettings × List ℕ) EventFault
 settings_of_form field None bytes = Err (BadField field)

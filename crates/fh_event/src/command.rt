@@ -79,6 +79,14 @@ pub enum Command {
         function: Text,
         settings: FunctionSettings,
     },
+    /// Begins to watch the schedule of a timer function.
+    Arm {
+        function: Text,
+    },
+    /// Makes the run of a timer function ready that is due.
+    Tick {
+        function: Text,
+    },
     /// Reads the first visible messages.
     Peek {
         queue: Text,

@@ -64,7 +64,8 @@ pub enum EventFault {
     ShortField { field: u8 },
     /// The text of this field has more than 16,777,216 bytes.
     LongField { field: u8 },
-    /// A moment is too late, a text is no UTF-8, or a first byte is none of those that the field may have.
+    /// A moment is too late, a text is no UTF-8, a byte is none of those that may stand there, or a mask is
+    /// empty or has a number outside its field of a schedule.
     BadField { field: u8 },
     /// So many bytes are left behind the last field.
     Trailing { left: u64 },

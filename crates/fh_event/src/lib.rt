@@ -12,6 +12,7 @@ mod command;
 mod faults;
 mod laws;
 mod lines;
+mod masks;
 mod reading;
 mod reply;
 mod settings;
@@ -28,8 +29,8 @@ pub use reply::{Item, Items, Place, Reply};
 pub use settings::FunctionSettings;
 pub use sizes::entry_size;
 pub use tables::{
-    ACQUIRE, CLEAR, CONFIGURE, DELETE, DELETE_BLOB, FieldType, GET_BLOB, LOCATE, MAKE_QUEUE, NOTE,
-    PEEK, PUT, PUT_BLOB, RELEASE_LEASE, RENEW_LEASE, TAKE, Table, UNNOTED, UPDATE,
+    ACQUIRE, ARM, CLEAR, CONFIGURE, DELETE, DELETE_BLOB, FieldType, GET_BLOB, LOCATE, MAKE_QUEUE,
+    NOTE, PEEK, PUT, PUT_BLOB, RELEASE_LEASE, RENEW_LEASE, TAKE, TICK, Table, UNNOTED, UPDATE,
 };
 pub use writing::encode;
 

@@ -2,7 +2,7 @@
 ghost use Rattle.std.specs.Prelude.{◌≡◌, ◌++◌, length, IfOk, OnOk};
 ghost use Rattle.std.specs.List.{flat_map};
 ghost use Rattle.std.specs.String.{string_bytes};
-ghost use Rattle.fh_event.specs.Lines.{escaped, rule_values, rule_line, taken_item, peeked_item, listed_name, place_line, reply_line, answer_line};
+ghost use Rattle.fh_event.specs.Lines.{escaped, spaced_time, rule_values, rule_line, taken_item, peeked_item, listed_name, place_line, reply_line, answer_line};
 
 use crate::reply::{Item, Place, Reply};
 use fh_base::{NoMemory, Rule, Text};
@@ -11,12 +11,15 @@ use std::alloc::Global;
 
 const ESCAPED: AsciiSet = ascii_set!(CONTROLS.add(b' ').add(b'%'));
 
+/// So many bytes most lines have at most.
+const MOST_LINES: usize = 64;
+
 /// The line for an answer, without a line feed. Texts are escaped by percent signs where they have a
 /// control character, a space, a percent sign or a byte outside ASCII; the empty text is printed `%`.
 pub fn answer_text(alloc: Global, answer: Result<&Reply, &Rule>) -> Result<String, NoMemory>
     ensures { IfOk result (λ line. string_bytes line ≡ answer_line answer.entry) }
 {
-    let mut line = String::new(alloc);
+    let mut line = String::with_capacity(alloc, MOST_LINES)?;
     match answer {
         Ok(reply) => push_reply(&mut line, reply)?,
         Err(rule) => push_rule(&mut line, rule)?,
@@ -90,6 +93,21 @@ fn push_reply(line: &mut String, reply: &Reply) -> Result<(), NoMemory>
         Reply::Renewed { until } => write!(line, "ok {until}")?,
         Reply::Configured { number } => write!(line, "ok {number}")?,
         Reply::Same => line.push_str("quiet same")?,
+        Reply::Armed { next } => {
+            line.push_str("ok armed")?;
+            push_time(line, *next)?;
+        }
+        Reply::PastDue { due, next } => {
+            write!(line, "ok pastdue {due}")?;
+            push_time(line, *next)?;
+        }
+        Reply::Ticked { due, next } => {
+            write!(line, "ok ticked {due}")?;
+            push_time(line, *next)?;
+        }
+        Reply::Running => line.push_str("quiet running")?,
+        Reply::Unarmed => line.push_str("quiet unarmed")?,
+        Reply::NotDue => line.push_str("quiet notdue")?,
         Reply::Got { version, text } => {
             write!(line, "is {version} ")?;
             push_escaped(line, text.as_str().as_bytes())?;
@@ -101,6 +119,17 @@ fn push_reply(line: &mut String, reply: &Reply) -> Result<(), NoMemory>
             write!(line, "is {count}")?;
             push_names(line, blobs)?;
         }
+    }
+    Ok(())
+}
+
+#[tactic(auto, using(crate::proofs::Joining::joining))]
+fn push_time(line: &mut String, time: Option<u64>) -> Result<(), NoMemory>
+    ensures { OnOk result (string_bytes line.new ≡ string_bytes line.old ++ spaced_time time) }
+{
+    match time {
+        None => line.push_str(" -")?,
+        Some(time) => write!(line, " {time}")?,
     }
     Ok(())
 }

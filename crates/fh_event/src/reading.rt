@@ -1,16 +1,19 @@
 // Reading entries from left to right.
-ghost use Rattle.std.specs.Prelude.{ℕ, Ok, IfOk};
+ghost use Rattle.std.specs.Prelude.{ℕ, ◌<◌, ◌≤◌, Ok, IfOk};
 ghost use Rattle.std.specs.Int.{w32, w64};
 ghost use Rattle.fh_event.specs.Answers.{Gives};
-ghost use Rattle.fh_event.specs.Reading.{byte_at, number_at, text_at, flag_at, maybe_at, settings_at, command_at, entry_read};
+ghost use Rattle.fh_event.specs.Reading.{byte_at, number_at, text_at, flag_at, mask_at, masks_at, maybe_at, settings_at, command_at, entry_read};
+ghost use Rattle.fh_event.specs.Masks.{schedule_ranges};
 ghost use Rattle.fh_event.specs.Entries.{IsEntry};
 
 use crate::command::Command;
 use crate::faults::EventFault;
+use crate::masks::is_mask;
 use crate::settings::FunctionSettings;
 use crate::tables::{
-    acquire, blob_settings, clear, configure, delete, delete_blob, get_blob, locate, make_queue,
-    note, peek, put, put_blob, queue_settings, release_lease, renew_lease, take, unnoted, update,
+    acquire, arm, blob_settings, clear, configure, delete, delete_blob, get_blob, locate,
+    make_queue, note, peek, put, put_blob, queue_settings, release_lease, renew_lease, take, tick,
+    timer_settings, unnoted, update,
 };
 use fh_base::{LONGEST_PAYLOAD, Moment, Text, utf8_text};
 use std::alloc::Global;
@@ -94,6 +97,31 @@ fn flag_of(field: u8, bytes: &[u8]) -> Result<(bool, &[u8]), EventFault>
     }
 }
 
+#[tactic(auto, unfolding(crate::specs::Reading::mask_at))]
+fn mask_of(field: u8, low: u8, high: u8, bytes: &[u8]) -> Result<(u64, &[u8]), EventFault>
+    requires low { low ≤ high }
+    requires high { high < 63 }
+    ensures { Gives (λ x. (x.0, x.1.now)) result (mask_at low high field bytes.now) }
+{
+    let (mask, rest) = number_of(field, bytes)?;
+    if !is_mask(low, high, mask) {
+        return Err(EventFault::BadField { field });
+    }
+    Ok((mask, rest))
+}
+
+fn masks_of(field: u8, bytes: &[u8]) -> Result<([u64; 6], &[u8]), EventFault>
+    ensures { Gives (λ x. (x.0, x.1.now)) result (masks_at schedule_ranges field bytes.now) }
+{
+    let (second, rest) = mask_of(field, 0, 59, bytes)?;
+    let (minute, rest) = mask_of(field, 0, 59, rest)?;
+    let (hour, rest) = mask_of(field, 0, 23, rest)?;
+    let (day, rest) = mask_of(field, 1, 31, rest)?;
+    let (month, rest) = mask_of(field, 1, 12, rest)?;
+    let (weekday, rest) = mask_of(field, 0, 6, rest)?;
+    Ok(([second, minute, hour, day, month, weekday], rest))
+}
+
 #[tactic(auto, unfolding(crate::specs::Reading::maybe_at))]
 fn maybe_number_of(field: u8, bytes: &[u8]) -> Result<(Option<u64>, &[u8]), EventFault>
     ensures { Gives (λ x. (x.0, x.1.now)) result (maybe_at (number_at w64 field) field bytes.now) }
@@ -136,6 +164,8 @@ macro_rules! held {
     (MaybeNumber $alloc:ident $field:literal $rest:ident) => { maybe_number_of($field, $rest) };
     (MaybeWords $alloc:ident $field:literal $rest:ident) => { maybe_text_of($alloc, $field, $rest) };
     (Settings $alloc:ident $field:literal $rest:ident) => { settings_of($alloc, $rest) };
+    (Masks $alloc:ident $field:literal $rest:ident) => { masks_of($field, $rest) };
+    (Flag $alloc:ident $field:literal $rest:ident) => { flag_of($field, $rest) };
 }
 
 // The field of a command that holds the settings of a function.
@@ -149,6 +179,7 @@ fn settings_of(alloc: Global, bytes: &[u8]) -> Result<(FunctionSettings, &[u8]),
     match form {
         1 => queue_settings!(reader FunctionSettings alloc rest),
         2 => blob_settings!(reader FunctionSettings alloc rest),
+        3 => timer_settings!(reader FunctionSettings alloc rest),
         _ => Err(EventFault::BadField {
             field: SETTINGS_FIELD,
         }),
@@ -173,6 +204,8 @@ fn command_of(alloc: Global, kind: u8, rest: &[u8]) -> Result<(Command, &[u8]), 
         11 => renew_lease!(reader Command alloc rest),
         12 => release_lease!(reader Command alloc rest),
         13 => configure!(reader Command alloc rest),
+        15 => arm!(reader Command alloc rest),
+        16 => tick!(reader Command alloc rest),
         21 => peek!(reader Command alloc rest),
         22 => get_blob!(reader Command alloc rest),
         23 => locate!(reader Command alloc rest),

@@ -103,8 +103,20 @@ pub enum Reply {
     Released,
     /// The function has that number, and these settings now.
     Configured { number: u64 },
-    /// Quiet: the function has these settings.
+    /// Quiet: the function has these settings, or its timer is armed and no run was missed.
     Same,
+    /// The timer runs next at that time. Times are in milliseconds.
+    Armed { next: Option<u64> },
+    /// The run that was due then is ready, past due, and the timer runs next at that time.
+    PastDue { due: u64, next: Option<u64> },
+    /// The run that was due then is ready, and the timer runs next at that time.
+    Ticked { due: u64, next: Option<u64> },
+    /// Quiet: a job of the function is ready or running.
+    Running,
+    /// Quiet: the timer isn't armed.
+    Unarmed,
+    /// Quiet: no run is due.
+    NotDue,
     /// A reading: the first visible messages.
     Peeked { items: Items },
     /// A reading: the blob as it is.

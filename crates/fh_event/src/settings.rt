@@ -22,4 +22,15 @@ pub enum FunctionSettings {
         retry: u64,
         singleton: u64,
     },
+    /// Runs by a schedule.
+    Timer {
+        /// The seconds, minutes, hours, days, months and days of the week: bit n of a mask stands for the
+        /// number n.
+        masks: [u64; 6],
+        /// It runs once when it is armed.
+        startup: bool,
+        /// A run that was missed is made up for.
+        monitor: bool,
+        singleton: u64,
+    },
 }

@@ -1,8 +1,8 @@
 // How long entries are.
-ghost use Rattle.std.specs.Prelude.{◌≡◌, ℕ, ◌-◌, ◌≤◌, ◌^◌, min, length};
+ghost use Rattle.std.specs.Prelude.{◌≡◌, ℕ, ◌-◌, ◌≤◌, ◌^◌, [], ◌∷◌, min, length};
 ghost use Rattle.std.specs.List.{flat_map};
 ghost use Rattle.fh_base.specs.Limits.{longest_payload};
-ghost use Rattle.fh_event.specs.Fields.{number_bytes, text_bytes, maybe_bytes, spelled};
+ghost use Rattle.fh_event.specs.Fields.{number_bytes, text_bytes, maybe_bytes, flag_byte, spelled};
 ghost use Rattle.fh_event.specs.Settings.{fields_of_settings};
 ghost use Rattle.fh_event.specs.Kinds.{fields_of};
 ghost use Rattle.fh_event.specs.Entries.{entry, HasShortTexts};
@@ -10,9 +10,9 @@ ghost use Rattle.fh_event.specs.Entries.{entry, HasShortTexts};
 use crate::command::Command;
 use crate::settings::FunctionSettings;
 use crate::tables::{
-    acquire, blob_settings, clear, configure, delete, delete_blob, get_blob, locate, make_queue,
-    note, of_command, of_settings, peek, put, put_blob, queue_settings, release_lease, renew_lease,
-    take, unnoted, update,
+    acquire, arm, blob_settings, clear, configure, delete, delete_blob, get_blob, locate,
+    make_queue, note, of_command, of_settings, peek, put, put_blob, queue_settings, release_lease,
+    renew_lease, take, tick, timer_settings, unnoted, update,
 };
 use fh_base::Text;
 
@@ -56,6 +56,8 @@ macro_rules! held_size {
     (MaybeNumber $name:ident) => { maybe_number_size($name) };
     (MaybeWords $name:ident) => { maybe_text_size($name) };
     (Settings $name:ident) => { settings_size($name) };
+    (Masks $name:ident) => { masks_size($name) };
+    (Flag $name:ident) => { flag_size(*$name) };
 }
 
 #[tactic(auto, using(crate::proofs::EntrySizes::adding))]
@@ -84,6 +86,25 @@ fn text_size(text: &Text) -> u64
     ensures { result ≡ min (length (text_bytes text.now)) (2 ^ 64 - 1) }
 {
     LENGTH.saturating_add(text.len() as u64)
+}
+
+#[tactic(auto, unfolding(crate::specs::Fields::number_bytes))]
+fn masks_size(masks: &[u64; 6]) -> u64
+    ensures { result ≡ length (flat_map number_bytes masks.now) }
+{
+    let [second, minute, hour, day, month, weekday] = *masks;
+    number_size(second)
+        + number_size(minute)
+        + number_size(hour)
+        + number_size(day)
+        + number_size(month)
+        + number_size(weekday)
+}
+
+fn flag_size(flag: bool) -> u64
+    ensures { result ≡ length (flag_byte flag ∷ []) }
+{
+    1
 }
 
 #[tactic(auto, unfolding(crate::specs::Fields::maybe_bytes, crate::specs::Fields::number_bytes))]

@@ -91,6 +91,14 @@ macro_rules! configure {
     ($with:ident $($args:tt)*) => { $with!([$($args)*] 13 Configure { 1 function: Words, 2 settings: Settings }) };
 }
 
+macro_rules! arm {
+    ($with:ident $($args:tt)*) => { $with!([$($args)*] 15 Arm { 1 function: Words }) };
+}
+
+macro_rules! tick {
+    ($with:ident $($args:tt)*) => { $with!([$($args)*] 16 Tick { 1 function: Words }) };
+}
+
 macro_rules! peek {
     ($with:ident $($args:tt)*) => { $with!([$($args)*] 21 Peek { 1 queue: Words, 2 count: Number }) };
 }
@@ -124,6 +132,12 @@ macro_rules! blob_settings {
     };
 }
 
+macro_rules! timer_settings {
+    ($with:ident $($args:tt)*) => {
+        $with!([$($args)*] 3 Timer { 2 masks: Masks, 2 startup: Flag, 2 monitor: Flag, 2 singleton: Number })
+    };
+}
+
 // Hands the table of a command's kind to the macro of that name, as above.
 macro_rules! of_command {
     ($command:ident $with:ident $($args:tt)*) => {
@@ -141,6 +155,8 @@ macro_rules! of_command {
             Command::RenewLease { .. } => renew_lease!($with $($args)*),
             Command::ReleaseLease { .. } => release_lease!($with $($args)*),
             Command::Configure { .. } => configure!($with $($args)*),
+            Command::Arm { .. } => arm!($with $($args)*),
+            Command::Tick { .. } => tick!($with $($args)*),
             Command::Peek { .. } => peek!($with $($args)*),
             Command::GetBlob { .. } => get_blob!($with $($args)*),
             Command::Locate { .. } => locate!($with $($args)*),
@@ -155,6 +171,7 @@ macro_rules! of_settings {
         match $settings {
             FunctionSettings::Queue { .. } => queue_settings!($with $($args)*),
             FunctionSettings::Blob { .. } => blob_settings!($with $($args)*),
+            FunctionSettings::Timer { .. } => timer_settings!($with $($args)*),
         }
     };
 }
@@ -164,6 +181,7 @@ macro_rules! kind {
 }
 
 pub(crate) use acquire;
+pub(crate) use arm;
 pub(crate) use blob_settings;
 pub(crate) use clear;
 pub(crate) use configure;
@@ -183,6 +201,8 @@ pub(crate) use queue_settings;
 pub(crate) use release_lease;
 pub(crate) use renew_lease;
 pub(crate) use take;
+pub(crate) use tick;
+pub(crate) use timer_settings;
 pub(crate) use unnoted;
 pub(crate) use update;
 
@@ -217,6 +237,10 @@ pub const RENEW_LEASE: Table<2> = renew_lease!(table);
 pub const RELEASE_LEASE: Table<2> = release_lease!(table);
 
 pub const CONFIGURE: Table<2> = configure!(table);
+
+pub const ARM: Table<1> = arm!(table);
+
+pub const TICK: Table<1> = tick!(table);
 
 pub const PEEK: Table<2> = peek!(table);
 

@@ -1,3 +1,6 @@
+ghost use Rattle.std.specs.Prelude.{IfOk};
+ghost use Rattle.fh_event.specs.Entries.{GivesGoodMasks};
+
 use super::*;
 use fh_base::{Moment, QueueName, Rule, Text, Texts, utf8_text};
 use std::test::Fail;
@@ -11,12 +14,16 @@ const PUT_HI: [u8; 34] = [
     0, 0, 0, 0, 0, 2, 0x68, 0x69,
 ];
 
-fn make_orders(rt: &HostRuntime) -> Result<Command, Fail> {
+fn make_orders(rt: &HostRuntime) -> Result<Command, Fail>
+    ensures { IfOk result (λ command. GivesGoodMasks command) }
+{
     let queue = Text::from_str(rt.alloc(), "orders")?;
     Ok(Command::MakeQueue { queue })
 }
 
-fn put_hi(rt: &HostRuntime) -> Result<Command, Fail> {
+fn put_hi(rt: &HostRuntime) -> Result<Command, Fail>
+    ensures { IfOk result (λ command. GivesGoodMasks command) }
+{
     let queue = Text::from_str(rt.alloc(), "orders")?;
     let text = Text::from_str(rt.alloc(), "hi")?;
     Ok(Command::Put {
@@ -28,7 +35,9 @@ fn put_hi(rt: &HostRuntime) -> Result<Command, Fail> {
 }
 
 // The command is written at the moment as these bytes.
-fn expect_bytes(rt: &HostRuntime, command: &Command, ms: u64, bytes: &[u8]) -> Result<(), Fail> {
+fn expect_bytes(rt: &HostRuntime, command: &Command, ms: u64, bytes: &[u8]) -> Result<(), Fail>
+    requires { GivesGoodMasks command.now }
+{
     let moment = Moment::new(ms).ok_or("a moment")?;
     let size = entry_size(command);
     if size != bytes.len() as u64 || size > 100 {
@@ -81,7 +90,9 @@ const CONFIGURED: [u8; 65] = [
     0, 0, 0, 0, 0, 0, 0, 0, 0, 0, 0,
 ];
 
-fn configure_orders(rt: &HostRuntime) -> Result<Command, Fail> {
+fn configure_orders(rt: &HostRuntime) -> Result<Command, Fail>
+    ensures { IfOk result (λ command. GivesGoodMasks command) }
+{
     let function = Text::from_str(rt.alloc(), "f")?;
     let queue = Text::from_str(rt.alloc(), "orders")?;
     Ok(Command::Configure {
@@ -119,10 +130,172 @@ fn settings_are_read(rt: HostRuntime) -> Result<(), Fail> {
     }
 }
 
+// At moment 258, a function `t` that runs each five minutes, makes up for a missed run, and is a singleton for
+// 15 seconds.
+const TIMED: [u8; 73] = [
+    0, 0, 0, 0, 0, 0, 1, 2, 13, 0, 0, 0, 1, 0x74, 3, 0, 0, 0, 0, 0, 0, 0, 1, 0, 0x84, 0x21, 8,
+    0x42, 16, 0x84, 0x21, 0, 0, 0, 0, 0, 0xff, 0xff, 0xff, 0, 0, 0, 0, 0xff, 0xff, 0xff, 0xfe, 0,
+    0, 0, 0, 0, 0, 0x1f, 0xfe, 0, 0, 0, 0, 0, 0, 0, 0x7f, 0, 1, 0, 0, 0, 0, 0, 0, 0, 15,
+];
+
+// The masks of `0 */5 * * * *`.
+const FIVE_MINUTES: [u64; 6] = [
+    1,
+    0x0084_2108_4210_8421,
+    0x00ff_ffff,
+    0xffff_fffe,
+    0x1ffe,
+    0x7f,
+];
+
+#[tactic(auto, unfolding(crate::specs::Masks::is_mask))]
+fn configure_timer(rt: &HostRuntime) -> Result<Command, Fail>
+    ensures { IfOk result (λ command. GivesGoodMasks command) }
+{
+    let function = Text::from_str(rt.alloc(), "t")?;
+    Ok(Command::Configure {
+        function,
+        settings: FunctionSettings::Timer {
+            masks: FIVE_MINUTES,
+            startup: false,
+            monitor: true,
+            singleton: 15,
+        },
+    })
+}
+
+#[test]
+fn the_entry_of_a_timer_byte_for_byte(rt: HostRuntime) -> Result<(), Fail> {
+    let command = configure_timer(&rt)?;
+    expect_bytes(&rt, &command, 258, &TIMED)
+}
+
+#[test]
+fn a_timer_is_read(rt: HostRuntime) -> Result<(), Fail> {
+    let (_, command) = decode(rt.alloc(), &TIMED)?;
+    match command {
+        Command::Configure {
+            settings: FunctionSettings::Timer {
+                masks,
+                startup,
+                monitor,
+                singleton,
+            },
+            ..
+        } => {
+            assert_eq!(rt; masks, FIVE_MINUTES);
+            assert_eq!(rt; (startup, monitor, singleton), (false, true, 15));
+            Ok(())
+        }
+        _ => Err("the bytes configure a timer".into()),
+    }
+}
+
+// The fault of the first bytes of the timer's entry, where one of them is another.
+fn timer_fault(rt: &HostRuntime, length: usize, place: usize, byte: u8) -> Option<EventFault> {
+    let mut bytes = TIMED;
+    if place >= 73 || length > 73 {
+        return None;
+    }
+    bytes[place] = byte;
+    decode(rt.alloc(), &bytes[..length]).err()
+}
+
+#[test]
+fn each_byte_of_a_timer_is_judged(rt: HostRuntime) {
+    // No form; no second, and second 60; minute 60; hour 24; days 0 and 32; months 0 and 13; weekday 7; the
+    // truth bytes.
+    let others = [
+        (14, 4),
+        (22, 0),
+        (15, 16),
+        (23, 16),
+        (35, 1),
+        (46, 0xff),
+        (42, 1),
+        (54, 0xff),
+        (53, 0x3f),
+        (62, 0xff),
+        (63, 2),
+        (64, 2),
+    ];
+    for (place, byte) in others {
+        let fault = timer_fault(&rt, 73, place, byte);
+        assert_eq!(rt; fault, Some(EventFault::BadField { field: 2 }));
+    }
+}
+
+#[test]
+fn a_timer_has_its_first_fault(rt: HostRuntime) {
+    for length in 14..73 {
+        let fault = timer_fault(&rt, length, 0, 0);
+        assert_eq!(rt; fault, Some(EventFault::ShortField { field: 2 }));
+    }
+    // A mask that is bad is told before the next one is cut off, and one that is cut off isn't judged.
+    let bad = Some(EventFault::BadField { field: 2 });
+    assert_eq!(rt; timer_fault(&rt, 23, 22, 0), bad);
+    let cut = Some(EventFault::ShortField { field: 2 });
+    assert_eq!(rt; timer_fault(&rt, 22, 15, 16), cut);
+}
+
+const ARMED: [u8; 14] = [0, 0, 0, 0, 0, 0, 0, 0, 15, 0, 0, 0, 1, 0x74];
+
+const TICKED: [u8; 14] = [0, 0, 0, 0, 0, 0, 0, 0, 16, 0, 0, 0, 1, 0x74];
+
+fn arm(rt: &HostRuntime) -> Result<Command, Fail>
+    ensures { IfOk result (λ command. GivesGoodMasks command) }
+{
+    let function = Text::from_str(rt.alloc(), "t")?;
+    Ok(Command::Arm { function })
+}
+
+fn tick(rt: &HostRuntime) -> Result<Command, Fail>
+    ensures { IfOk result (λ command. GivesGoodMasks command) }
+{
+    let function = Text::from_str(rt.alloc(), "t")?;
+    Ok(Command::Tick { function })
+}
+
+#[test]
+fn the_entry_of_an_arm_byte_for_byte(rt: HostRuntime) -> Result<(), Fail> {
+    let command = arm(&rt)?;
+    expect_bytes(&rt, &command, 0, &ARMED)
+}
+
+#[test]
+fn the_entry_of_a_tick_byte_for_byte(rt: HostRuntime) -> Result<(), Fail> {
+    let command = tick(&rt)?;
+    expect_bytes(&rt, &command, 0, &TICKED)
+}
+
+#[test]
+fn an_arm_is_read(rt: HostRuntime) -> Result<(), Fail> {
+    let (_, command) = decode(rt.alloc(), &ARMED)?;
+    match command {
+        Command::Arm { function } => {
+            assert_eq!(rt; function.as_str(), "t");
+            Ok(())
+        }
+        _ => Err("the bytes are an arm".into()),
+    }
+}
+
+#[test]
+fn a_tick_is_read(rt: HostRuntime) -> Result<(), Fail> {
+    let (_, command) = decode(rt.alloc(), &TICKED)?;
+    match command {
+        Command::Tick { function } => {
+            assert_eq!(rt; function.as_str(), "t");
+            Ok(())
+        }
+        _ => Err("the bytes are a tick".into()),
+    }
+}
+
 #[test]
 fn damaged_entries_have_their_first_fault(rt: HostRuntime) {
     let long = EventFault::LongField { field: 1 };
-    let cases: [(&[u8], EventFault); 20] = [
+    let cases: [(&[u8], EventFault); 23] = [
         (b"", EventFault::ShortField { field: 0 }),
         (b"\0\0\0\0\0\0\0", EventFault::ShortField { field: 0 }),
         (b"\0\0\0\0\0\0\0\0", EventFault::ShortField { field: 0 }),
@@ -159,13 +332,13 @@ fn damaged_entries_have_their_first_fault(rt: HostRuntime) {
             b"\0\0\0\0\0\0\0\0\x01\0\0\0\x01q\0\0",
             EventFault::Trailing { left: 2 },
         ),
-        // The settings of a function: their form is missing, is none of the two, or their fields are cut off.
+        // The settings of a function: their form is missing, is none of the three, or their fields are cut off.
         (
             b"\0\0\0\0\0\0\0\0\x0d\0\0\0\x01f",
             EventFault::ShortField { field: 2 },
         ),
         (
-            b"\0\0\0\0\0\0\0\0\x0d\0\0\0\x01f\x03",
+            b"\0\0\0\0\0\0\0\0\x0d\0\0\0\x01f\x04",
             EventFault::BadField { field: 2 },
         ),
         (
@@ -177,6 +350,9 @@ fn damaged_entries_have_their_first_fault(rt: HostRuntime) {
             EventFault::ShortField { field: 2 },
         ),
         (b"\0\0\0\0\0\0\0\0\x0e", EventFault::BadKind { kind: 14 }),
+        (b"\0\0\0\0\0\0\0\0\x0f", EventFault::ShortField { field: 1 }),
+        (b"\0\0\0\0\0\0\0\0\x10", EventFault::ShortField { field: 1 }),
+        (b"\0\0\0\0\0\0\0\0\x11", EventFault::BadKind { kind: 17 }),
     ];
     for (bytes, expected) in cases {
         let fault = decode(rt.alloc(), bytes).err();
@@ -298,6 +474,28 @@ fn each_reply_has_its_line(rt: HostRuntime) -> Result<(), Fail> {
             },
             "is unknown",
         ),
+    ];
+    for (reply, expected) in &cases {
+        let line = answer_text(rt.alloc(), Ok(reply))?;
+        assert_eq!(rt; line.as_str(), *expected);
+    }
+    Ok(())
+}
+
+#[test]
+fn each_reply_of_a_timer_has_its_line(rt: HostRuntime) -> Result<(), Fail> {
+    let next = Some(600000);
+    let due = 300000;
+    let cases: [(Reply, &str); 9] = [
+        (Reply::Armed { next }, "ok armed 600000"),
+        (Reply::Armed { next: None }, "ok armed -"),
+        (Reply::PastDue { due, next }, "ok pastdue 300000 600000"),
+        (Reply::PastDue { due, next: None }, "ok pastdue 300000 -"),
+        (Reply::Ticked { due, next }, "ok ticked 300000 600000"),
+        (Reply::Ticked { due, next: None }, "ok ticked 300000 -"),
+        (Reply::Running, "quiet running"),
+        (Reply::Unarmed, "quiet unarmed"),
+        (Reply::NotDue, "quiet notdue"),
     ];
     for (reply, expected) in &cases {
         let line = answer_text(rt.alloc(), Ok(reply))?;

@@ -1,29 +1,33 @@
 // Writing entries.
-ghost use Rattle.std.specs.Prelude.{◌≡◌, ◌^◌, ◌<◌, ◌≤◌, ◌∷◌, ◌++◌, length, OnOk, OnErr, IfSome};
+ghost use Rattle.std.specs.Prelude.{◌≡◌, ◌^◌, ◌<◌, ◌≤◌, [], ◌∷◌, ◌++◌, length, OnOk, OnErr, IfSome};
 ghost use Rattle.std.specs.List.{flat_map, AllByRecursion};
-ghost use Rattle.fh_event.specs.Fields.{number_bytes, text_bytes, maybe_bytes, spelled, IsText, IsField, IsShort};
-ghost use Rattle.fh_event.specs.Settings.{form_number, form_of, fields_behind_form, fields_of_settings};
+ghost use Rattle.fh_event.specs.Fields.{number_bytes, text_bytes, maybe_bytes, flag_byte, spelled, IsText, IsField, IsShort};
+ghost use Rattle.fh_event.specs.Settings.{form_number, form_of, fields_behind_form, fields_of_settings, HasGoodMasks};
 ghost use Rattle.fh_event.specs.Kinds.{kind_number, kind_of, fields_of};
 ghost use Rattle.fh_base.specs.Limits.{longest_payload};
-ghost use Rattle.fh_event.specs.Entries.{entry, HasShortTexts, AppendsEntry, Extends};
+ghost use Rattle.fh_event.specs.Entries.{entry, HasShortTexts, GivesGoodMasks, AppendsEntry, Extends};
 
 use crate::command::Command;
 use crate::settings::FunctionSettings;
+use crate::sizes::entry_size;
 use crate::tables::{
-    acquire, blob_settings, clear, configure, delete, delete_blob, get_blob, kind, locate,
+    acquire, arm, blob_settings, clear, configure, delete, delete_blob, get_blob, kind, locate,
     make_queue, note, of_command, of_settings, peek, put, put_blob, queue_settings, release_lease,
-    renew_lease, take, unnoted, update,
+    renew_lease, take, tick, timer_settings, unnoted, update,
 };
 use fh_base::{Moment, NoMemory, Text};
 
-/// Appends the entry of the moment and the command, if no text has more than 16,777,216 bytes. After want of memory nothing is appended.
+/// Appends the entry of the moment and the command, if no text has more than 16,777,216 bytes, and each mask of
+/// a schedule has numbers of its field. After want of memory nothing is appended.
 #[tactic(auto, using(crate::proofs::Extending::taken_back))]
 pub fn encode(command: &Command, moment: Moment, into: &mut Vec<u8>) -> Result<(), NoMemory>
-    requires { HasShortTexts command.now }
+    requires texts { HasShortTexts command.now }
+    requires masks { GivesGoodMasks command.now }
     ensures ok { OnOk result (AppendsEntry into.old.items into.new.items moment command.now) }
     ensures err { OnErr result (into.new.items ≡ into.old.items) }
 {
     let before = into.len();
+    into.reserve(entry_size(command) as usize)?;
     let written = put_entry(into, moment, command);
     if written.is_err() {
         into.truncate(before);
@@ -33,7 +37,8 @@ pub fn encode(command: &Command, moment: Moment, into: &mut Vec<u8>) -> Result<(
 
 #[tactic(auto, using(crate::proofs::Extending::extending))]
 fn put_entry(into: &mut Vec<u8>, moment: Moment, command: &Command) -> Result<(), NoMemory>
-    requires { HasShortTexts command.now }
+    requires texts { HasShortTexts command.now }
+    requires masks { GivesGoodMasks command.now }
     ensures ok { OnOk result (AppendsEntry into.old.items into.new.items moment command.now) }
     ensures err { OnErr result (Extends into.old.items into.new.items) }
 {
@@ -62,6 +67,26 @@ fn put_text(into: &mut Vec<u8>, text: &Text) -> Result<(), NoMemory>
 {
     into.extend_from_slice(&(text.len() as u32).to_be_bytes())?;
     into.extend_from_slice(text.as_str().as_bytes())?;
+    Ok(())
+}
+
+#[tactic(auto, using(crate::proofs::Extending::extending))]
+fn put_masks(into: &mut Vec<u8>, masks: &[u64]) -> Result<(), NoMemory>
+    ensures ok { OnOk result (into.new.items ≡ into.old.items ++ flat_map number_bytes masks.now) }
+    ensures grows { Extends into.old.items into.new.items }
+{
+    for mask in masks {
+        put_number(into, *mask)?;
+    }
+    Ok(())
+}
+
+#[tactic(auto, using(crate::proofs::Extending::extending))]
+fn put_flag(into: &mut Vec<u8>, flag: bool) -> Result<(), NoMemory>
+    ensures ok { OnOk result (into.new.items ≡ into.old.items ++ flag_byte flag ∷ []) }
+    ensures grows { Extends into.old.items into.new.items }
+{
+    into.push(flag as u8)?;
     Ok(())
 }
 
@@ -114,11 +139,14 @@ macro_rules! put_held {
     (MaybeNumber $into:ident $name:ident) => { put_maybe_number($into, $name) };
     (MaybeWords $into:ident $name:ident) => { put_maybe_text($into, $name) };
     (Settings $into:ident $name:ident) => { put_settings($into, $name) };
+    (Masks $into:ident $name:ident) => { put_masks($into, $name) };
+    (Flag $into:ident $name:ident) => { put_flag($into, *$name) };
 }
 
 #[tactic(auto, using(crate::proofs::Extending::extending))]
 fn put_settings(into: &mut Vec<u8>, settings: &FunctionSettings) -> Result<(), NoMemory>
-    requires { AllByRecursion IsShort (fields_of_settings settings.now) }
+    requires texts { AllByRecursion IsShort (fields_of_settings settings.now) }
+    requires masks { HasGoodMasks settings.now }
     ensures ok { OnOk result
         (into.new.items ≡ into.old.items ++ flat_map spelled (fields_of_settings settings.now)) }
     ensures fields { OnOk result (AllByRecursion IsField (fields_of_settings settings.now)) }
@@ -130,7 +158,8 @@ fn put_settings(into: &mut Vec<u8>, settings: &FunctionSettings) -> Result<(), N
 
 #[tactic(auto, using(crate::proofs::Extending::extending))]
 fn put_settings_fields(into: &mut Vec<u8>, settings: &FunctionSettings) -> Result<(), NoMemory>
-    requires { AllByRecursion IsShort (fields_behind_form settings.now) }
+    requires texts { AllByRecursion IsShort (fields_behind_form settings.now) }
+    requires masks { HasGoodMasks settings.now }
     ensures ok { OnOk result
         (into.new.items ≡ into.old.items ++ flat_map spelled (fields_behind_form settings.now)) }
     ensures fields { OnOk result (AllByRecursion IsField (fields_behind_form settings.now)) }
@@ -148,7 +177,8 @@ fn form_of(settings: &FunctionSettings) -> u8
 
 #[tactic(auto, using(crate::proofs::Extending::extending))]
 fn put_fields(into: &mut Vec<u8>, command: &Command) -> Result<(), NoMemory>
-    requires { HasShortTexts command.now }
+    requires texts { HasShortTexts command.now }
+    requires masks { GivesGoodMasks command.now }
     ensures ok { OnOk result (into.new.items ≡ into.old.items ++ flat_map spelled (fields_of command.now)) }
     ensures fields { OnOk result (AllByRecursion IsField (fields_of command.now)) }
     ensures err { OnErr result (Extends into.old.items into.new.items) }
