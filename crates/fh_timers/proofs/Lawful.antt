@@ -1,6 +1,7 @@
 -- What every layer above may cite: one lemma for each law of the timers.
 use Rattle.std.proofs.Common.{◌≡◌, ℕ, ◌<◌, ◌≤◌, Bool, true, false, Option, Some, None, refl, sym, ap, ◌∙◌, subst, ◌⊎◌, inl, inr, arith}
 use Rattle.std.specs.Prelude.{◌==◌, if◌then◌else◌, IfSome}
+use Rattle.std.proofs.lemmas.Bool.Decides.{nat_tests}
 use Rattle.fh_base.specs.Moments.{greatest_moment}
 use Rattle.fh_event.specs.Judging.{Makes}
 use Rattle.fh_ncrontab.specs.declared.schedule.Schedule.{Schedule}
@@ -14,7 +15,8 @@ use Rattle.fh_timers.specs.declared.done.TimerDone.TheVariants as done
 use Rattle.fh_timers.specs.Part.{TimerPart, no_timers, row_of}
 use Rattle.fh_timers.specs.Acts.{acted}
 use Rattle.fh_timers.specs.Outcome.{next_time, missed, due, new_row, after_run, watching, arming_found, running, ticking_found, acting, made_by, outcome}
-use Rattle.fh_timers.specs.Laws.{IsRising, IsWhole, OfEachAsk, StaysWhole, schedule_given, IsDueBetween, RaisesDueTimes, IsTimeGiven, next_of, KeepsSchedules, KeepsLater, KeepsOthers}
+use Rattle.fh_timers.specs.Laws.{IsRising, IsWhole, OfEachAsk, StaysWhole, schedule_given, IsDueBetween, RaisesDueTimes, IsTimeGiven, next_of, KeepsSchedules, KeepsLater, KeepsOthers, answers, AnswersTheAsk, is_busy, RunsWhereIdle, RemovesRows}
+use Rattle.fh_timers.specs.Runs.{run_of}
 use Rattle.fh_timers.proofs.Numbering.{same_number, row_of-set, row_of-removed, row_of-number}
 use Rattle.fh_timers.proofs.Times.{next_time-later, next_time-scheduled, missed-is, due-is}
 
@@ -106,6 +108,38 @@ module _ (P : TimerAsk → Act → TimerDone → Type 0) (part : TimerPart) (m :
 kept : (part : TimerPart) → acted part acts.Keep ≡ part
 unfolding acted
 kept part = refl
+
+-- ---- answers
+
+answer_ways : (part : TimerPart) (m : ℕ) → Ways (λ ask act answer. answers ask answer ≡ true) part m
+answer_ways part m = record {
+  makes_up = λ f s startup row time ready. refl;
+  starts = λ f s row. refl;
+  anew = λ f s startup monitor. refl;
+  ticks = λ f s row time ready. refl;
+  removes = λ f. refl;
+  nothing = refl;
+}
+
+pub answers_the_ask : AnswersTheAsk
+answers_the_ask part ask m after answer is = (by_ways _ part m (answer_ways part m) after answer ask is).holds
+
+idle_ways : (part : TimerPart) (m : ℕ) → Ways (λ ask act answer. IfSome (run_of answer) (λ run. is_busy ask ≡ false)) part m
+idle_ways part m = record {
+  makes_up = λ f s startup row time ready. refl;
+  starts = λ f s row. refl;
+  anew = λ f s startup monitor. at_start startup (next_time s m);
+  ticks = λ f s row time ready. refl;
+  removes = λ f. tt;
+  nothing = tt;
+}
+  where
+    at_start : (startup : Bool) (next : Option ℕ) → IfSome (run_of (done.Armed next startup)) (λ run. ◌≡◌ {A = Bool} false false)
+    at_start true next = refl
+    at_start false next = tt
+
+pub runs_where_idle : RunsWhereIdle
+runs_where_idle part ask m after answer is = (by_ways _ part m (idle_ways part m) after answer ask is).holds
 
 -- ---- whole parts
 
@@ -304,3 +338,27 @@ pub keeps_others : OfEachAsk KeepsOthers
 keeps_others part ask m after answer h within is =
     let by = by_ways (Others part m) part m (other_ways part m) after answer ask is in
     subst (λ (p : TimerPart). KeepsOthers part m ask p answer) by.made by.holds
+
+-- ---- removed rows
+
+module _ (part : TimerPart) (m : ℕ) where
+  abbrev Removes : TimerAsk → Act → TimerDone → Type 0
+  Removes ask act answer = RemovesRows part m ask (acted part act) answer
+
+  same : (f : ℕ) → (f == f) ≡ true
+  same f = grind (arith, nat_tests)
+
+  remove_ways : Ways Removes part m
+  remove_ways = record {
+    makes_up = λ f s startup row time ready. tt;
+    starts = λ f s row. tt;
+    anew = λ f s startup monitor. tt;
+    ticks = λ f s row time ready. tt;
+    removes = λ f. row_of-removed f part f ∙ ap (λ b. if b then None else row_of f part.timers) (same f);
+    nothing = tt;
+  }
+
+pub removes_rows : OfEachAsk RemovesRows
+removes_rows part ask m after answer h early is =
+    let by = by_ways (Removes part m) part m (remove_ways part m) after answer ask is in
+    subst (λ (p : TimerPart). RemovesRows part m ask p answer) by.made by.holds

@@ -1,5 +1,5 @@
 -- What holds of each ask that changes something.
-use Rattle.std.specs.Prelude.{◌≡◌, ℕ, ◌*◌, ◌<◌, ◌≤◌, ◌==◌, Bool, true, false, ◌⊎◌, if◌then◌else◌, Option, Some, None, IfSome, pos}
+use Rattle.std.specs.Prelude.{◌≡◌, ⊤, ℕ, ◌*◌, ◌<◌, ◌≤◌, ◌==◌, Bool, true, false, ◌⊎◌, if◌then◌else◌, Option, Some, None, IfSome, pos}
 use Rattle.fh_base.specs.Moments.{greatest_moment}
 use Rattle.fh_event.specs.Judging.{Makes}
 use Rattle.fh_ncrontab.specs.declared.schedule.Schedule.{Schedule}
@@ -8,9 +8,11 @@ use Rattle.fh_timers.specs.declared.row.TimerRow.{TimerRow}
 use Rattle.fh_timers.specs.declared.ask.TimerAsk.{TimerAsk}
 use Rattle.fh_timers.specs.declared.ask.TimerAsk.TheVariants.{Arm, Tick, Remove, Nothing}
 use Rattle.fh_timers.specs.declared.done.TimerDone.{TimerDone}
-use Rattle.fh_timers.specs.declared.done.TimerDone.TheVariants.{PastDue, Ticked}
+use Rattle.fh_timers.specs.declared.done.TimerDone.TheVariants.{PastDue, Armed, Ticked, Removed}
+use Rattle.fh_timers.specs.declared.done.TimerDone.TheVariants as done
 use Rattle.fh_timers.specs.Part.{TimerPart, row_of}
 use Rattle.fh_timers.specs.Outcome.{outcome}
+use Rattle.fh_timers.specs.Runs.{run_of}
 
 -- the last due time wasn't after the moment at which the row was set, and the next one is
 pub record IsRising (row : TimerRow) : Type 0 where
@@ -99,3 +101,35 @@ KeepsLater part m ask after answer =
 abbrev pub KeepsOthers : TimerPart → ℕ → TimerAsk → TimerPart → TimerDone → Type 0
 KeepsOthers part m ask after answer =
     (f : ℕ) → is_about f ask ≡ false → row_of f after.timers ≡ row_of f part.timers
+
+-- the answer is one to this ask
+abbrev pub answers : TimerAsk → TimerDone → Bool
+answers (Arm function schedule startup monitor busy) (PastDue due next) = true
+answers (Arm function schedule startup monitor busy) (Armed next ready) = true
+answers (Tick function schedule busy) (Ticked due next) = true
+answers (Remove function) Removed = true
+answers Nothing done.Nothing = true
+answers ask answer = false
+
+-- an ask that changes something has its own answer, whatever the part before
+abbrev pub AnswersTheAsk : Type 0
+AnswersTheAsk =
+    (part : TimerPart) (ask : TimerAsk) (m : ℕ) (after : TimerPart) (answer : TimerDone)
+    → outcome part ask m ≡ Makes after answer → answers ask answer ≡ true
+
+-- a job of the asked function is in work
+abbrev pub is_busy : TimerAsk → Bool
+is_busy (Arm function schedule startup monitor busy) = busy
+is_busy (Tick function schedule busy) = busy
+is_busy ask = false
+
+-- a run is made ready where no job of the function is in work
+abbrev pub RunsWhereIdle : Type 0
+RunsWhereIdle =
+    (part : TimerPart) (ask : TimerAsk) (m : ℕ) (after : TimerPart) (answer : TimerDone)
+    → outcome part ask m ≡ Makes after answer → IfSome (run_of answer) (λ run. is_busy ask ≡ false)
+
+-- a function whose row is removed has none
+abbrev pub RemovesRows : TimerPart → ℕ → TimerAsk → TimerPart → TimerDone → Type 0
+RemovesRows part m (Remove function) after answer = row_of function after.timers ≡ None
+RemovesRows part m ask after answer = ⊤

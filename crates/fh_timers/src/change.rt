@@ -1,6 +1,6 @@
 // Changes of the timers, planned and staged.
-use crate::TimerDone;
 use crate::act::Act;
+use crate::{TimerDone, TimerRun};
 use std::marker::Model;
 
 /// A change that was planned. It may be dropped.
@@ -38,6 +38,7 @@ impl TimerChange {
     ghost use Rattle.fh_timers.specs.Part.{TimerPart};
     ghost use Rattle.fh_timers.specs.Acts.{acted};
     ghost use Rattle.fh_timers.specs.Edits.{planned};
+    ghost use Rattle.fh_timers.specs.Runs.{run_of};
 
     /// Whether it was accepted and changes nothing.
     pub fn is_quiet(&self) -> bool
@@ -54,6 +55,13 @@ impl TimerChange {
             | TimerDone::Removed
             | TimerDone::Nothing => false,
         }
+    }
+
+    /// The run that it makes ready, where it makes one. Takes no memory.
+    pub fn run(&self) -> Option<TimerRun>
+        ensures { result ≡ run_of self.now.done }
+    {
+        self.done.run()
     }
 
     /// What is answered.

@@ -2,7 +2,7 @@
 //! first law carries that over every list of asks, from no timers on.
 
 ghost use Rattle.fh_timers.specs.Part.{no_timers};
-ghost use Rattle.fh_timers.specs.Laws.{IsWhole, OfEachAsk, StaysWhole, RaisesDueTimes, KeepsSchedules, KeepsLater, KeepsOthers};
+ghost use Rattle.fh_timers.specs.Laws.{IsWhole, OfEachAsk, StaysWhole, RaisesDueTimes, KeepsSchedules, KeepsLater, KeepsOthers, AnswersTheAsk, RunsWhereIdle, RemovesRows};
 
 /// The last due time of a row isn't after the moment at which the row was set, and the next one is.
 pub fn timers_stay_whole()
@@ -30,4 +30,19 @@ pub fn next_times_stay_later()
 /// The row of a function that an ask isn't about stays as it is.
 pub fn other_timers_stay()
     ensures { OfEachAsk KeepsOthers }
+{}
+
+/// Each ask that changes something has its own answer.
+pub fn asks_have_their_answers()
+    ensures { AnswersTheAsk }
+{}
+
+/// A run is made ready only where no job of the function is in work.
+pub fn runs_are_made_where_none_is()
+    ensures { RunsWhereIdle }
+{}
+
+/// A function whose row is removed has none.
+pub fn removed_rows_are_gone()
+    ensures { OfEachAsk RemovesRows }
 {}

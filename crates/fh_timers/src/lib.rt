@@ -23,8 +23,8 @@ pub use ask::TimerAsk;
 pub use change::{StagedTimers, TimerChange};
 pub use done::{TimerDone, TimerRun};
 pub use laws::{
-    due_times_are_scheduled, due_times_rise, next_times_stay_later, other_timers_stay,
-    timers_stay_whole,
+    asks_have_their_answers, due_times_are_scheduled, due_times_rise, next_times_stay_later,
+    other_timers_stay, removed_rows_are_gone, runs_are_made_where_none_is, timers_stay_whole,
 };
 pub use row::TimerRow;
 pub use timers::Timers;
