@@ -1,6 +1,6 @@
 -- What every layer above may cite: one lemma for each law of the blobs.
 use Rattle.std.proofs.Common.{◌≡◌, ℕ, ◌+◌, ◌<◌, ◌≤◌, Bool, true, false, List, [], ◌∷◌, ◌++◌, length, filter, find, Option, Some, None, refl, sym, ap, ◌∙◌, subst, arith}
-use Rattle.std.specs.Prelude.{◌==◌, ◌&&◌, ◌||◌, nat_le, nat_lt, if◌then◌else◌, is_some}
+use Rattle.std.specs.Prelude.{◌==◌, ◌&&◌, ◌||◌, nat_le, nat_lt, if◌then◌else◌, is_some, option_map}
 use Rattle.std.specs.List.{list_all}
 use Rattle.std.specs.Ordering.{is_lt, is_gt, is_ne, is_eq}
 use Rattle.std.specs.Str.{bytes_eq}
@@ -20,7 +20,7 @@ use Rattle.fh_blobs.specs.Asks.{Ask, Put, Remove, Note, PutAll, Nothing}
 use Rattle.fh_blobs.specs.Rules.{text_rule, texts_rule}
 use Rattle.fh_blobs.specs.Acts.{new_row, receipt_of, with_blob, acted, by_acts}
 use Rattle.fh_blobs.specs.Outcome.{Acting, removing_found, noting_found, puts, acting, made_by, outcome}
-use Rattle.fh_blobs.specs.Laws.{IsWhole, OfEachAsk, StaysWhole, gives, GivesVersionsInTurn, MakesReceiptsOnce, HasNoReceipt, new_versions, MovesVersions}
+use Rattle.fh_blobs.specs.Laws.{IsWhole, OfEachAsk, StaysWhole, gives, GivesVersionsInTurn, MakesReceiptsOnce, HasNoReceipt, new_versions, MovesVersions, answers, AnswersTheAsk, NotesTheCurrentVersion}
 use Rattle.fh_blobs.proofs.Receipts.{has_receipt-made, first_of_both, second_of_both, same_text, blob_of-names, all-found, is_this, is_eq-by_receipt}
 
 -- what holds of each way in which an ask changes something
@@ -118,6 +118,44 @@ pub moves_versions : MovesVersions
 moves_versions part ask m after answer is =
     let by = by_ways (Little part) part (little_ways part) after answer ask m is in
     subst (λ (p : BlobPart). p.next_version ≤ part.next_version + new_versions ask) by.made by.holds
+
+-- ---- answers
+
+module _ (part : BlobPart) where
+  abbrev Answers : Ask → List Act → BlobDone → Type 0
+  Answers ask chain answer = answers ask answer ≡ true
+
+  answer_ways : Ways Answers part
+  answer_ways = record {
+    stores = λ c n text. refl;
+    removes = λ c n. refl;
+    notes = λ f c n row stands noted. refl;
+    stores_all = λ blobs. refl;
+    nothing = refl;
+  }
+
+  abbrev Current : Ask → List Act → BlobDone → Type 0
+  Current ask chain answer = NotesTheCurrentVersion part 0 ask part answer
+
+  current_ways : Ways Current part
+  current_ways = record {
+    stores = λ c n text. tt;
+    removes = λ c n. tt;
+    notes = λ f c n row stands noted. ap (option_map (λ (r : BlobRow). r.version)) stands;
+    stores_all = λ blobs. tt;
+    nothing = tt;
+  }
+
+pub answers_the_ask : AnswersTheAsk
+answers_the_ask part ask m after answer is = (by_ways (Answers part) part (answer_ways part) after answer ask m is).holds
+
+pub notes_current : OfEachAsk NotesTheCurrentVersion
+notes_current part ask m after answer h is =
+    of_each ask answer (by_ways (Current part) part (current_ways part) after answer ask m is).holds
+  where
+    of_each : (ask : Ask) (answer : BlobDone) → Current part ask [] answer → NotesTheCurrentVersion part m ask after answer
+    of_each (Note f c n) (done.NowNoted version) is = is
+    of_each ask answer is = tt
 
 -- ---- receipts
 

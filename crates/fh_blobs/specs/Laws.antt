@@ -1,12 +1,12 @@
 -- What holds of each ask that changes something.
-use Rattle.std.specs.Prelude.{◌≡◌, ℕ, ◌+◌, ◌≤◌, ◌==◌, nat_le, nat_lt, Bool, true, false, ◌&&◌, ◌||◌, List, length}
+use Rattle.std.specs.Prelude.{◌≡◌, ℕ, ◌+◌, ◌≤◌, ◌==◌, nat_le, nat_lt, Bool, true, false, ◌&&◌, ◌||◌, List, length, option_map, Some, ⊤}
 use Rattle.std.specs.List.{list_all}
 use Rattle.std.specs.Str.{bytes_eq}
 use Rattle.fh_event.specs.Judging.{Makes}
 use Rattle.fh_blobs.specs.declared.done.BlobDone.{BlobDone}
 use Rattle.fh_blobs.specs.declared.done.BlobDone.TheVariants as done
-use Rattle.fh_blobs.specs.Part.{BlobPart, has_receipt}
-use Rattle.fh_blobs.specs.Asks.{Ask, Put, Note, PutAll}
+use Rattle.fh_blobs.specs.Part.{BlobPart, blob_of, has_receipt}
+use Rattle.fh_blobs.specs.Asks.{Ask, Put, Remove, Note, PutAll, Nothing}
 use Rattle.fh_blobs.specs.Outcome.{outcome}
 
 -- versions of blobs and receipts were given
@@ -64,3 +64,24 @@ abbrev pub MovesVersions : Type 0
 MovesVersions =
     (part : BlobPart) (ask : Ask) (m : ℕ) (after : BlobPart) (answer : BlobDone)
     → outcome part ask m ≡ Makes after answer → after.next_version ≤ part.next_version + new_versions ask
+
+-- the answer is one to this ask
+abbrev pub answers : Ask → BlobDone → Bool
+answers (Put container name text) (done.Stored version) = true
+answers (Remove container name) done.Removed = true
+answers (Note function container name) (done.NowNoted version) = true
+answers (PutAll blobs) (done.AllStored first count) = true
+answers Nothing done.Nothing = true
+answers ask answer = false
+
+-- an ask that changes something has its own answer, whatever the part before
+abbrev pub AnswersTheAsk : Type 0
+AnswersTheAsk =
+    (part : BlobPart) (ask : Ask) (m : ℕ) (after : BlobPart) (answer : BlobDone)
+    → outcome part ask m ≡ Makes after answer → answers ask answer ≡ true
+
+-- what is noted is the blob as it is
+abbrev pub NotesTheCurrentVersion : BlobPart → ℕ → Ask → BlobPart → BlobDone → Type 0
+NotesTheCurrentVersion part m (Note function container name) after (done.NowNoted version) =
+    option_map (λ row. row.version) (blob_of container name part.blobs) ≡ Some version
+NotesTheCurrentVersion part m ask after answer = ⊤

@@ -2,7 +2,7 @@
 //! over every list of asks, from no blobs on.
 
 ghost use Rattle.fh_blobs.specs.Part.{BlobPart, no_blobs};
-ghost use Rattle.fh_blobs.specs.Laws.{IsWhole, OfEachAsk, StaysWhole, GivesVersionsInTurn, MakesReceiptsOnce, HasNoReceipt, MovesVersions};
+ghost use Rattle.fh_blobs.specs.Laws.{IsWhole, OfEachAsk, StaysWhole, GivesVersionsInTurn, MakesReceiptsOnce, HasNoReceipt, MovesVersions, AnswersTheAsk, NotesTheCurrentVersion};
 
 /// Blobs and receipts have versions that were given.
 pub fn parts_stay_whole()
@@ -28,4 +28,14 @@ pub fn receipts_are_made_once()
 /// A version that is still to be given has no receipt.
 pub fn new_versions_have_no_receipt()
     ensures { (part : BlobPart) → IsWhole part → HasNoReceipt part }
+{}
+
+/// Each ask that changes something has its own answer.
+pub fn asks_have_their_answers()
+    ensures { AnswersTheAsk }
+{}
+
+/// What a function notes is the blob as it is.
+pub fn current_versions_are_noted()
+    ensures { OfEachAsk NotesTheCurrentVersion }
 {}

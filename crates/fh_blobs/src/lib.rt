@@ -26,8 +26,8 @@ pub use blobs::Blobs;
 pub use change::{BlobChange, StagedBlobs};
 pub use done::BlobDone;
 pub use laws::{
-    new_versions_have_no_receipt, parts_stay_whole, receipts_are_made_once,
-    versions_are_given_in_turn, versions_move_little,
+    asks_have_their_answers, current_versions_are_noted, new_versions_have_no_receipt,
+    parts_stay_whole, receipts_are_made_once, versions_are_given_in_turn, versions_move_little,
 };
 pub use receipt::Receipt;
 

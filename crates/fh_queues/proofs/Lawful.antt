@@ -10,7 +10,7 @@ use Rattle.fh_queues.specs.Part.{QueuePart}
 use Rattle.fh_queues.specs.Outcome.{outcome}
 use Rattle.fh_queues.specs.Seen.{Stands, seen}
 use Rattle.fh_queues.specs.Whole.{IsWhole}
-use Rattle.fh_queues.specs.Laws.{OfEachAsk, GoesOnAsAnswered, KeepsUntouched, RaisesReceipts, TakesVisible, HasShortTexts, MovesLittle, GivesNumbersInTurn, GivesReceiptsInTurn}
+use Rattle.fh_queues.specs.Laws.{OfEachAsk, GoesOnAsAnswered, KeepsUntouched, RaisesReceipts, TakesVisible, HasShortTexts, MovesLittle, GivesNumbersInTurn, GivesReceiptsInTurn, answers, AnswersTheAsk}
 use Rattle.fh_queues.specs.Goings.{goes_on}
 use Rattle.fh_queues.proofs.Goings.{goings}
 use Rattle.fh_queues.proofs.Guards.{stays, untouched_stands, raises, rises_by}
@@ -84,3 +84,17 @@ pub gives_receipts : OfEachAsk GivesReceiptsInTurn
 gives_receipts part ask m after answer h is =
     let way = by_ways _ part m (givings part m) after answer ask is in
     subst (λ (p : QueuePart). GivesReceiptsInTurn part m ask p answer) way.made way.holds.receipt
+
+answer_ways : (part : QueuePart) (m : ℕ) → Ways (λ ask acts answer. answers ask answer ≡ true) part m
+answer_ways part m = record {
+  makes = λ queue. refl;
+  puts = λ queue delay ttl text about short. refl;
+  takes = λ queue count seconds less. refl;
+  updates = λ queue number receipt seconds text short named. refl;
+  deletes = λ queue number receipt named. refl;
+  clears = λ queue. refl;
+  sweeps = refl;
+}
+
+pub answers_the_ask : AnswersTheAsk
+answers_the_ask part ask m after answer is = (by_ways _ part m (answer_ways part m) after answer ask is).holds

@@ -1,11 +1,12 @@
 -- Laws of each ask that changes something.
-use Rattle.std.specs.Prelude.{◌≡◌, ℕ, ◌+◌, ◌<◌, ◌≤◌, nat_le, nat_lt, ◌&&◌, ◌↔◌, if◌then◌else◌, true, false, List, length, Some, None, Ok, IfSome, ⊤}
+use Rattle.std.specs.Prelude.{◌≡◌, ℕ, ◌+◌, ◌<◌, ◌≤◌, nat_le, nat_lt, ◌&&◌, ◌↔◌, if◌then◌else◌, Bool, true, false, List, length, Some, None, Ok, IfSome, ⊤}
 use Rattle.fh_event.specs.declared.reply.Item.{Item}
 use Rattle.fh_event.specs.declared.reply.Place.TheVariants as place
 use Rattle.fh_event.specs.Judging.{Makes}
 use Rattle.fh_queues.specs.declared.row.Message.{Message}
 use Rattle.fh_queues.specs.declared.done.QueueDone.{QueueDone}
-use Rattle.fh_queues.specs.Asks.{Ask, Put, Take, Update}
+use Rattle.fh_queues.specs.declared.done.QueueDone.TheVariants as done
+use Rattle.fh_queues.specs.Asks.{Ask, Make, Put, Take, Update, Delete, Clear, Sweep}
 use Rattle.fh_queues.specs.Rows.{is_live, is_visible, row_of}
 use Rattle.fh_queues.specs.Order.{are_listed}
 use Rattle.fh_queues.specs.Part.{QueuePart}
@@ -88,3 +89,20 @@ abbrev pub ListsInOrder : QueuePart → Type 0
 ListsInOrder part =
     (queue : List ℕ) (count m : ℕ) (items : List Item) → peeked part queue count m ≡ Ok items
     → are_listed 0 items ≡ true
+
+-- the answer is one to this ask
+abbrev pub answers : Ask → QueueDone → Bool
+answers (Make queue) done.Made = true
+answers (Put queue delay ttl text about) (done.Stored number receipt) = true
+answers (Take queue count hold) (done.Taken items) = true
+answers (Update queue number receipt hold text) (done.Updated newest) = true
+answers (Delete queue number receipt) done.Deleted = true
+answers (Clear queue) (done.Cleared count) = true
+answers Sweep done.Swept = true
+answers ask answer = false
+
+-- an ask that changes something has its own answer, whatever the part before
+abbrev pub AnswersTheAsk : Type 0
+AnswersTheAsk =
+    (part : QueuePart) (ask : Ask) (m : ℕ) (after : QueuePart) (answer : QueueDone)
+    → outcome part ask m ≡ Makes after answer → answers ask answer ≡ true

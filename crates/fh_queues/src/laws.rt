@@ -9,7 +9,7 @@ ghost use Rattle.fh_queues.specs.Part.{QueuePart, no_queues};
 ghost use Rattle.fh_queues.specs.Outcome.{outcome};
 ghost use Rattle.fh_queues.specs.Whole.{IsWhole};
 ghost use Rattle.fh_queues.specs.Tellings.{TellsOfMessages};
-ghost use Rattle.fh_queues.specs.Laws.{OfEachAsk, StaysWhole, MovesLittle, GoesOnAsAnswered, GivesNumbersInTurn, GivesReceiptsInTurn, KeepsUntouched, RaisesReceipts, TakesVisible, HasShortTexts, IsKnownByNumber, ListsInOrder};
+ghost use Rattle.fh_queues.specs.Laws.{OfEachAsk, StaysWhole, MovesLittle, GoesOnAsAnswered, GivesNumbersInTurn, GivesReceiptsInTurn, KeepsUntouched, RaisesReceipts, TakesVisible, HasShortTexts, IsKnownByNumber, ListsInOrder, AnswersTheAsk};
 
 /// Rows stand in order of number, a count is at most its receipt, and a message whose number was given
 /// has a row or has ended, and not both.
@@ -75,4 +75,9 @@ pub fn messages_are_as_told()
 /// No text that is taken in is longer than a message.
 pub fn texts_are_short()
     ensures { OfEachAsk HasShortTexts }
+{}
+
+/// Each ask that changes something has its own answer.
+pub fn asks_have_their_answers()
+    ensures { AnswersTheAsk }
 {}
