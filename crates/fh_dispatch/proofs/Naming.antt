@@ -1,6 +1,6 @@
 -- The function of a name, after one was configured.
-use Rattle.std.proofs.Common.{◌≡◌, ℕ, Bool, true, false, List, Some, refl, ap, ◌∙◌, rules}
-use Rattle.std.specs.Prelude.{if◌then◌else◌, option_map}
+use Rattle.std.proofs.Common.{◌≡◌, ℕ, Bool, true, false, List, Some, refl, ◌∙◌, arith, rules}
+use Rattle.std.specs.Prelude.{◌==◌, if◌then◌else◌}
 use Rattle.std.specs.Cmp.{IsTotalOrder}
 use Rattle.std.specs.Cmp.Rules.{comparing}
 use Rattle.std.specs.Cmp.Lexicographic.{slice_cmp}
@@ -8,6 +8,7 @@ use Rattle.std.specs.Ordering.{nat_cmp, is_eq}
 use Rattle.std.specs.Str.{bytes_eq}
 use Rattle.std.specs.declared.cmp.Ordering.{Ordering}
 use Rattle.std.specs.declared.cmp.Ordering.TheVariants.{Less, Equal, Greater}
+use Rattle.std.proofs.lemmas.Bool.Decides.{nat_tests}
 use Rattle.std.proofs.lemmas.Map.Text.{is_eq-slice_cmp}
 use Rattle.std.proofs.lemmas.Slice.Eq.{bytes_eq-Decides}
 use Rattle.fh_rows.proofs.Lawful.{row_at-with_same, row_at-with_other}
@@ -15,7 +16,6 @@ use Rattle.fh_event.specs.declared.settings.FunctionSettings.TheVariants.{Blob}
 use Rattle.fh_dispatch.specs.declared.function.Function.{Function}
 use Rattle.fh_dispatch.specs.Part.{WorkPart, by_name, function_of}
 use Rattle.fh_dispatch.specs.Acts.{with_function}
-use Rattle.fh_dispatch.specs.Laws.{number_of}
 
 total : IsTotalOrder (λ (a b : Function). by_name b.name a)
 total = search (comparing, rules)
@@ -34,16 +34,12 @@ same_name a b is = (bytes_eq-Decides a b).0 is
 pub own_name : (a : List ℕ) → bytes_eq a a ≡ true
 own_name a = (bytes_eq-Decides a a).1 refl
 
+pub own_number : (n : ℕ) → (n == n) ≡ true
+own_number n = grind (arith, nat_tests)
+
 pub function_of-set : (function : Function) (part : WorkPart) (x : List ℕ) → function_of x (with_function function part).functions ≡ (if bytes_eq function.name x then Some function else function_of x part.functions)
 function_of-set function part x = by_test (bytes_eq function.name x) refl
   where
     by_test : (b : Bool) → bytes_eq function.name x ≡ b → function_of x (with_function function part).functions ≡ (if b then Some function else function_of x part.functions)
     by_test true is = row_at-with_same (λ (a b : Function). by_name b.name a) total function (named x) part.functions (equal (slice_cmp nat_cmp function.name x) (is_eq-slice_cmp function.name x ∙ is))
     by_test false is = row_at-with_other (λ (a b : Function). by_name b.name a) total function (named x) part.functions (is_eq-slice_cmp function.name x ∙ is)
-
-pub number_of-set : (function : Function) (part : WorkPart) (x : List ℕ) → number_of (with_function function part) x ≡ (if bytes_eq function.name x then Some function.number else number_of part x)
-number_of-set function part x = ap (option_map (λ (f : Function). f.number)) (function_of-set function part x) ∙ by_test (bytes_eq function.name x)
-  where
-    by_test : (b : Bool) → option_map (λ (f : Function). f.number) (if b then Some function else function_of x part.functions) ≡ (if b then Some function.number else number_of part x)
-    by_test true = refl
-    by_test false = refl

@@ -8,10 +8,11 @@ use Rattle.fh_dispatch.specs.Part.{WorkPart}
 use Rattle.fh_dispatch.specs.Acts.{by_acts}
 use Rattle.fh_dispatch.specs.Outcome.{Outcome}
 
--- what the work holds: its part of the world, and for how many more functions there is room
+-- what the work holds: its part of the world, and for how many more functions and ready jobs there is room
 pub record WorkState : Type 0 where
   pub part : WorkPart
   pub room : ℕ
+  pub job_room : ℕ
 
 -- the acts of a change, and its answer
 pub record Change : Type 0 where
@@ -47,3 +48,4 @@ pub record IsStaged (state : WorkState) (staged : Staged) : Type 0 where
   pub numbers : HasNumbers state.part
   pub few : length staged.acts < 2 ^ 63
   pub room : length staged.acts ≤ state.room
+  pub job_room : length staged.acts ≤ state.job_room

@@ -6,9 +6,12 @@ use Rattle.fh_event.specs.declared.faults.PlanFault.TheVariants.{Rule as OfRule,
 use Rattle.fh_event.specs.Judging.{Refuses}
 use Rattle.fh_queues.specs.Asks as queues
 use Rattle.fh_queues.specs.Edits as queue_edits
-use Rattle.fh_queues.specs.Faults as queue_faults
 use Rattle.fh_queues.specs.Outcome as queue_outcome
 use Rattle.fh_queues.specs.Part.{QueuePart}
+use Rattle.fh_timers.specs.declared.ask.TimerAsk.{TimerAsk}
+use Rattle.fh_timers.specs.Edits as timer_edits
+use Rattle.fh_timers.specs.Outcome as timer_outcome
+use Rattle.fh_timers.specs.Part.{TimerPart}
 use Rattle.fh_dispatch.specs.declared.change.WorkPlan.{WorkPlan}
 use Rattle.fh_dispatch.specs.Part.{WorkPart}
 use Rattle.fh_dispatch.specs.Outcome.{Outcome}
@@ -32,6 +35,9 @@ IsQueuesPlanOf part (Some ask) m None = ⊥
 IsQueuesPlanOf part (Some ask) m (Some change) =
     queue_outcome.outcome part ask m ≡ queue_edits.planned part change
 
--- a rule is the one by which the queues refuse the ask
-abbrev pub IsQueuesFaultOf : QueuePart → queues.Ask → ℕ → PlanFault → Type 0
-IsQueuesFaultOf part ask m fault = queue_faults.IsPlanOf part (queue_outcome.outcome part ask m) (Err fault)
+-- so it is with the change of the timers
+abbrev pub IsTimersPlanOf : TimerPart → Option TimerAsk → ℕ → Option timer_edits.Change → Type 0
+IsTimersPlanOf part None m change = change ≡ None
+IsTimersPlanOf part (Some ask) m None = ⊥
+IsTimersPlanOf part (Some ask) m (Some change) =
+    timer_outcome.outcome part ask m ≡ timer_edits.planned part change

@@ -1,20 +1,34 @@
 -- What holds of each ask that changes something.
-use Rattle.std.specs.Prelude.{◌≡◌, ℕ, ◌+◌, ◌<◌, ◌≤◌, Bool, true, false, ◌↔◌, List, Option, Some, None, option_map}
+use Rattle.std.specs.Prelude.{◌≡◌, ⊤, ℕ, ◌+◌, ◌<◌, ◌≤◌, ◌==◌, Bool, true, false, if◌then◌else◌, ◌↔◌, ◌⊎◌, List, [], ◌∷◌, ◌++◌, Option, Some, None, option_map, IfSome}
 use Rattle.std.specs.Str.{bytes_eq}
 use Rattle.fh_event.specs.declared.settings.FunctionSettings.{FunctionSettings}
+use Rattle.fh_event.specs.declared.settings.FunctionSettings.TheVariants.{Timer}
 use Rattle.fh_event.specs.Judging.{Makes}
+use Rattle.fh_ncrontab.specs.Schedule.{are_masks}
+use Rattle.fh_queues.specs.Asks as queues
+use Rattle.fh_queues.specs.Part.{QueuePart}
+use Rattle.fh_timers.specs.declared.ask.TimerAsk.TheVariants.{Remove}
 use Rattle.fh_dispatch.specs.declared.done.WorkDone.{WorkDone}
 use Rattle.fh_dispatch.specs.declared.done.WorkDone.TheVariants as done
+use Rattle.fh_dispatch.specs.Ready.{jobs_of, in_work, is_busy}
 use Rattle.fh_dispatch.specs.Part.{WorkPart, function_of}
-use Rattle.fh_dispatch.specs.Settings.{same_settings}
-use Rattle.fh_dispatch.specs.Asks.{Ask, Configure, Nothing}
-use Rattle.fh_dispatch.specs.Outcome.{configured, outcome}
+use Rattle.fh_dispatch.specs.declared.timer.Timer.{Timer as FunctionTimer}
+use Rattle.fh_dispatch.specs.Settings.{same_settings, has_other_trigger}
+use Rattle.fh_dispatch.specs.Asks.{Ask, Configure, Ready, Nothing}
+use Rattle.fh_dispatch.specs.Outcome.{number_or, configured, outcome}
+use Rattle.fh_dispatch.specs.Queues.{asks_queues}
+use Rattle.fh_dispatch.specs.Timers.{timer_of, asks_timers}
 
 -- the number of the function of this name
 abbrev pub number_of : WorkPart → List ℕ → Option ℕ
 number_of part name = option_map (λ function. function.number) (function_of name part.functions)
 
--- numbers of functions were given, from 1 on, and two functions with one number are one
+-- where settings name a schedule there is one
+abbrev pub HasSchedule : FunctionSettings → Type 0
+HasSchedule (Timer masks startup monitor singleton) = are_masks masks ≡ true
+HasSchedule settings = ⊤
+
+-- numbers of functions were given, from 1 on, two functions with one number are one, and a timer has a schedule
 pub record IsWhole (part : WorkPart) : Type 0 where
   pub begun : 1 ≤ part.next_function
   pub given :
@@ -23,6 +37,7 @@ pub record IsWhole (part : WorkPart) : Type 0 where
   pub apart :
       (name other : List ℕ) (number : ℕ)
       → number_of part name ≡ Some number → number_of part other ≡ Some number → name ≡ other
+  pub scheduled : (name : List ℕ) → IfSome (function_of name part.functions) (λ function. HasSchedule function.settings)
 
 -- what holds of each ask that changes a whole part, by the part before, the moment, the part after and the answer
 abbrev pub OfEachAsk : (WorkPart → ℕ → Ask → WorkPart → WorkDone → Type 0) → Type 0
@@ -41,7 +56,7 @@ KeepsNumbers part m ask after answer =
 -- the ask configures the function of this name
 abbrev pub is_named : List ℕ → Ask → Bool
 is_named x (Configure name settings) = bytes_eq name x
-is_named x Nothing = false
+is_named x ask = false
 
 -- a function that had no number gets the next one, and then the next one is the one behind that; where the function
 -- has a number, the next one stays
@@ -59,12 +74,98 @@ abbrev pub IsAsConfigured : WorkPart → ℕ → Ask → WorkPart → WorkDone �
 IsAsConfigured part m (Configure name settings) after (done.Configured number) =
     function_of name after.functions ≡ Some (configured number name settings)
 IsAsConfigured part m (Configure name settings) after answer = ⊥
+IsAsConfigured part m (Ready function run) after answer = after.functions ≡ part.functions
 IsAsConfigured part m Nothing after answer = after ≡ part
 
 -- a function that the ask doesn't name stays as it is
 abbrev pub KeepsUnnamed : WorkPart → ℕ → Ask → WorkPart → WorkDone → Type 0
 KeepsUnnamed part m ask after answer =
     (x : List ℕ) → is_named x ask ≡ false → function_of x after.functions ≡ function_of x part.functions
+
+-- the number of the function of this name, as it is or as it is given next
+abbrev pub number_for : WorkPart → List ℕ → ℕ
+number_for part name = number_or part.next_function (function_of name part.functions)
+
+-- a run that is made ready is the last of its function's jobs; a function that is configured keeps its jobs, and has
+-- none where it gets another trigger
+abbrev pub HasJobsAsAsked : WorkPart → ℕ → Ask → WorkPart → WorkDone → Type 0
+HasJobsAsAsked part m (Configure name settings) after answer =
+    jobs_of (number_for part name) after.ready
+    ≡ (if has_other_trigger settings (function_of name part.functions) then [] else jobs_of (number_for part name) part.ready)
+HasJobsAsAsked part m (Ready function run) after answer =
+    jobs_of function after.ready ≡ jobs_of function part.ready ++ record { function = function; run = run } ∷ []
+HasJobsAsAsked part m Nothing after answer = after ≡ part
+
+-- the ask is about the function of this number
+abbrev pub is_about : WorkPart → ℕ → Ask → Bool
+is_about part f (Configure name settings) = number_for part name == f
+is_about part f (Ready function run) = function == f
+is_about part f Nothing = false
+
+-- the jobs of a function that the ask isn't about stay as they are
+abbrev pub KeepsOtherJobs : WorkPart → ℕ → Ask → WorkPart → WorkDone → Type 0
+KeepsOtherJobs part m ask after answer =
+    (f : ℕ) → is_about part f ask ≡ false → jobs_of f after.ready ≡ jobs_of f part.ready
+
+-- a run is made ready where no job of the function is in work
+abbrev pub FindsNoJob : WorkPart → Ask → Type 0
+FindsNoJob part (Ready function run) = is_busy function part.ready ≡ false
+FindsNoJob part ask = ⊤
+
+-- then a function that had one job in work at most has no more
+abbrev pub KeepsOneJob : WorkPart → ℕ → Ask → WorkPart → WorkDone → Type 0
+KeepsOneJob part m ask after answer =
+    FindsNoJob part ask → (f : ℕ) → in_work f part.ready ≤ 1 → in_work f after.ready ≤ 1
+
+-- the answer is one to this ask
+abbrev pub answers : Ask → WorkDone → Bool
+answers (Configure name settings) (done.Configured number) = true
+answers (Ready function run) done.Ready = true
+answers Nothing done.Nothing = true
+answers ask answer = false
+
+-- an ask that changes something has its own answer, whatever the part before
+abbrev pub AnswersTheAsk : Type 0
+AnswersTheAsk =
+    (part : WorkPart) (ask : Ask) (m : ℕ) (after : WorkPart) (answer : WorkDone)
+    → outcome part ask m ≡ Makes after answer → answers ask answer ≡ true
+
+-- one number is given at most, whatever the part before
+abbrev pub MovesNumbers : Type 0
+MovesNumbers =
+    (part : WorkPart) (ask : Ask) (m : ℕ) (after : WorkPart) (answer : WorkDone)
+    → outcome part ask m ≡ Makes after answer → after.next_function ≤ part.next_function + 1
+
+abbrev pub is_configure : Ask → Bool
+is_configure (Configure name settings) = true
+is_configure ask = false
+
+-- the queues are asked to make a queue or nothing, and only where a function is configured
+abbrev pub AsksOnlyToMake : Type 0
+AsksOnlyToMake =
+    (part : WorkPart) (kept : QueuePart) (ask : Ask)
+    → (asks_queues part kept ask ≡ None)
+    ⊎ ((queue : List ℕ) × (asks_queues part kept ask ≡ Some (queues.Make queue)) × (is_configure ask ≡ true))
+
+-- the timers are asked to remove a row or nothing, and only where a function is configured
+abbrev pub AsksOnlyToRemove : Type 0
+AsksOnlyToRemove =
+    (part : WorkPart) (ask : Ask)
+    → (asks_timers part ask ≡ None)
+    ⊎ ((function : ℕ) × (asks_timers part ask ≡ Some (Remove function)) × (is_configure ask ≡ true))
+
+-- the function has a timer of this number and schedule
+pub record HasTimer (part : WorkPart) (name : List ℕ) (timer : FunctionTimer) : Type 0 where
+  pub before : FunctionTimer
+  pub there : timer_of name part.functions ≡ Some before
+  pub function : before.function ≡ timer.function
+  pub schedule : before.schedule ≡ timer.schedule
+
+-- a timer afterwards was there with its number and schedule, or its function is new, or its row is removed
+abbrev pub KeepsTimers : WorkPart → ℕ → Ask → WorkPart → WorkDone → Type 0
+KeepsTimers part m ask after answer =
+    (name : List ℕ) (timer : FunctionTimer) → timer_of name after.functions ≡ Some timer
+    → HasTimer part name timer ⊎ ((timer.function ≡ part.next_function) ⊎ (asks_timers part ask ≡ Some (Remove timer.function)))
 
 -- settings count as the same exactly where they are equal
 abbrev pub ComparesSettings : Type 0

@@ -1,3 +1,4 @@
+pub mod Ready
 pub mod Part
 pub mod Settings
 pub mod Asks
@@ -5,6 +6,8 @@ pub mod Rules
 pub mod Acts
 pub mod Outcome
 pub mod Queues
+pub mod Notes
+pub mod Timers
 pub mod Edits
 pub mod Faults
 pub mod Laws

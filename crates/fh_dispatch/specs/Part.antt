@@ -5,14 +5,16 @@ use Rattle.std.specs.Ordering.{nat_cmp}
 use Rattle.std.specs.declared.cmp.Ordering.{Ordering}
 use Rattle.fh_rows.specs.Rows.{row_at}
 use Rattle.fh_dispatch.specs.declared.function.Function.{Function}
+use Rattle.fh_dispatch.specs.declared.ready.ReadyJob.{ReadyJob}
 
--- the functions in order of their names, and the number that the next new one gets
+-- the functions in order of their names, the jobs that are ready, and the number that the next new function gets
 pub record WorkPart : Type 0 where
   pub functions : List Function
+  pub ready : List ReadyJob
   pub next_function : ℕ
 
 abbrev pub no_work : WorkPart
-no_work = record { functions = []; next_function = 1 }
+no_work = record { functions = []; ready = []; next_function = 1 }
 
 -- how a function stands to a name: names are in order of their bytes
 abbrev pub by_name : List ℕ → Function → Ordering

@@ -1,14 +1,21 @@
 // What is asked of the work.
 use fh_event::FunctionSettings;
 use fh_queues::QueueAsk;
+use fh_timers::TimerRun;
 
 /// A change that is asked for.
 #[derive(Clone, Copy)]
 pub enum WorkAsk<'a> {
-    /// Gives a function these settings, and makes its queue where it is missing.
+    /// Gives a function these settings, and makes its queue where it is missing. Where its trigger changes, its
+    /// ready jobs and its row of the timers go.
     Configure {
         function: &'a str,
         settings: &'a FunctionSettings,
+    },
+    /// Makes a run of a function's timer ready.
+    Ready {
+        function: u64,
+        run: TimerRun,
     },
     /// Changes nothing: what a command asks that asks something of other stores alone.
     Nothing,

@@ -4,6 +4,7 @@ use crate::act::Act;
 use fh_blobs::BlobChange;
 use fh_leases::LeaseChange;
 use fh_queues::QueueChange;
+use fh_timers::TimerChange;
 use std::marker::Model;
 
 /// A change that was planned. It may be dropped.
@@ -28,6 +29,7 @@ pub struct WorkPlan {
     pub queues: Option<QueueChange>,
     pub blobs: Option<BlobChange>,
     pub leases: Option<LeaseChange>,
+    pub timers: Option<TimerChange>,
 }
 
 /// A change that has all its memory. It has to be settled or unstaged.
@@ -59,7 +61,7 @@ impl WorkChange {
     {
         match self.done {
             WorkDone::Same => true,
-            WorkDone::Configured { .. } | WorkDone::Nothing => false,
+            WorkDone::Configured { .. } | WorkDone::Ready | WorkDone::Nothing => false,
         }
     }
 

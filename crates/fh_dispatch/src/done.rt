@@ -7,5 +7,7 @@ pub enum WorkDone {
     Configured { number: u64 },
     /// Nothing: the function has these settings.
     Same,
+    /// The run is ready.
+    Ready,
     Nothing,
 }

@@ -1,12 +1,15 @@
-//! The store of work: functions and their settings.
+//! The store of work: functions, their settings, and the jobs of them that are ready.
 //!
-//! Promised to the layer above: contracts see the functions in order of their names, and the next function
-//! number. `plan` answers what an ask comes to, or the rule that refuses it, and what the ask makes of the
-//! other stores: to configure a function makes its queue where that is missing. `stage` takes all memory of a
-//! change, and then `settle` makes exactly it and `unstage` makes nothing, both without memory. `function_of`
-//! reads a function. `laws` says that a function keeps its number, that numbers are given in turn, each once,
-//! and that other functions stay as they are. Read `specs/Part.antt`, `Rules.antt`, `Outcome.antt` and
-//! `Queues.antt` first.
+//! Promised to the layer above: contracts see the functions in order of their names, the ready jobs in order
+//! of function number and, of a function, in the order in which they came, and the next function number. `plan`
+//! answers what an ask comes to, or the rule that refuses it, and what the ask makes of the other stores: to
+//! configure a function makes its queue where that is missing, and removes its timer's row where its trigger
+//! changes. `stage` takes all memory of a change, and then `settle` makes exactly it and `unstage` makes
+//! nothing, both without memory. `function_of`, `timer_of`, `jobs_of` and `in_work` read; `note_text` is the
+//! text by which a function is told of a blob. `laws` says that a function keeps its number, that numbers are
+//! given in turn, each once, that other functions and their jobs stay as they are, and that a function has one
+//! run ready at most. Read `specs/Part.antt`, `Ready.antt`, `Rules.antt`, `Outcome.antt`, `Queues.antt` and
+//! `Timers.antt` first.
 #![tactic(auto)]
 
 mod act;
@@ -15,11 +18,14 @@ mod change;
 mod done;
 mod function;
 mod laws;
+mod note;
 mod planning;
 mod queues;
+mod ready;
 mod rules;
 mod settings;
 mod staging;
+mod timer;
 mod work;
 
 pub use ask::WorkAsk;
@@ -27,10 +33,15 @@ pub use change::{StagedWork, WorkChange, WorkPlan};
 pub use done::WorkDone;
 pub use function::Function;
 pub use laws::{
-    functions_are_as_configured, numbers_are_given_in_turn, numbers_are_kept, other_functions_stay,
-    parts_stay_whole, same_settings_are_equal,
+    asks_have_their_answers, functions_are_as_configured, jobs_are_as_asked,
+    numbers_are_given_in_turn, numbers_are_kept, numbers_move_little, one_job_stays_one,
+    other_functions_stay, other_jobs_stay, parts_stay_whole, queues_are_only_made,
+    rows_are_only_removed, same_settings_are_equal, timers_are_kept_or_removed,
 };
+pub use note::note_text;
 pub use queues::inner_queue;
+pub use ready::ReadyJob;
+pub use timer::Timer;
 pub use work::Work;
 
 #[cfg(test)]

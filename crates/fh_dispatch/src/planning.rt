@@ -1,33 +1,37 @@
 // What an ask comes to, before anything changes.
-ghost use Rattle.std.specs.Prelude.{◌≡◌, ◌∷◌, [], Some, None, option_copied, IfOk, IfErr};
-ghost use Rattle.fh_queues.specs.Asks.{ask_of as queue_ask_of};
+ghost use Rattle.std.specs.Prelude.{◌≡◌, ◌∷◌, [], None, option_copied, IfOk};
 ghost use Rattle.fh_queues.specs.Edits as queue_edits;
-ghost use Rattle.fh_dispatch.specs.Asks.{ask_of};
-ghost use Rattle.fh_dispatch.specs.Settings.{is_as};
-ghost use Rattle.fh_dispatch.specs.declared.act.Act.TheVariants.{Set};
-ghost use Rattle.fh_dispatch.specs.declared.done.WorkDone.TheVariants.{Configured};
-ghost use Rattle.fh_dispatch.specs.Outcome.{number_or, configured, configuring, made_by, outcome};
-ghost use Rattle.fh_dispatch.specs.Queues.{configuring_queues, asks_queues};
+ghost use Rattle.fh_timers.specs.Edits as timer_edits;
+ghost use Rattle.fh_dispatch.specs.Part.{function_of};
+ghost use Rattle.fh_event.specs.Settings.{HasGoodMasks};
+ghost use Rattle.fh_dispatch.specs.Asks.{ask_of, GivesGoodMasks};
+ghost use Rattle.fh_dispatch.specs.Settings.{is_as, has_other_trigger};
+ghost use Rattle.fh_dispatch.specs.declared.act.Act.TheVariants.{Set, AddJob};
+ghost use Rattle.fh_dispatch.specs.declared.done.WorkDone.TheVariants.{Configured, Ready};
+ghost use Rattle.fh_dispatch.specs.Outcome.{number_or, configured, configuring, dropping, made_by, outcome};
+ghost use Rattle.fh_dispatch.specs.Queues.{made_where_missing, configuring_queues, asks_queues};
+ghost use Rattle.fh_dispatch.specs.Timers.{removing, configuring_timers, asks_timers};
 ghost use Rattle.fh_dispatch.specs.Edits.{IsIdle, HasNumbers};
-ghost use Rattle.fh_dispatch.specs.Faults.{IsPlanOf, IsQueuesPlanOf, IsQueuesFaultOf};
+ghost use Rattle.fh_dispatch.specs.Faults.{IsPlanOf, IsQueuesPlanOf, IsTimersPlanOf};
 
 use crate::act::Act;
 use crate::ask::Asking;
 use crate::queues::queue_of;
 use crate::rules::ranges_rule;
-use crate::settings::{copy_settings, same_settings};
-use crate::{Function, Work, WorkAsk, WorkChange, WorkDone, WorkPlan};
-use fh_base::{Moment, NoMemory, Text};
+use crate::settings::{copy_settings, same_settings, same_trigger};
+use crate::{Function, ReadyJob, Work, WorkAsk, WorkChange, WorkDone, WorkPlan};
+use fh_base::{Moment, NoMemory, QueueName, Text};
 use fh_blobs::Blobs;
 use fh_event::{FunctionSettings, PlanFault};
 use fh_leases::Leases;
-use fh_queues::{QueueAsk, Queues};
+use fh_queues::{QueueAsk, QueueChange, Queues};
+use fh_timers::{TimerAsk, TimerChange, TimerRun, Timers};
 use std::alloc::Global;
 
 impl Work {
     /// The change that an ask makes at a moment, with the changes of the other stores, or the rule that
     /// refuses it. Rules are tested in the order of their numbers. A change that is quiet makes nothing.
-    #[tactic(auto, unfolding(crate::specs::Outcome::acting, crate::specs::Outcome::outcome, crate::specs::Queues::asks_queues))]
+    #[tactic(auto, unfolding(crate::specs::Outcome::acting, crate::specs::Outcome::outcome, crate::specs::Queues::asks_queues, crate::specs::Timers::asks_timers))]
     pub fn plan(
         &self,
         alloc: Global,
@@ -35,22 +39,28 @@ impl Work {
         queues: &Queues,
         _blobs: &Blobs,
         _leases: &Leases,
+        timers: &Timers,
         m: Moment,
     ) -> Result<WorkPlan, PlanFault>
         requires idle { IsIdle self.now }
         requires numbers { HasNumbers self.now.part }
         requires queues_idle { queue_edits.IsIdle queues.now }
         requires queues_numbers { queue_edits.HasNumbers queues.now.part }
+        requires timers_idle { timer_edits.IsIdle timers.now }
         ensures work { IsPlanOf self.now.part (outcome self.now.part (ask_of ask.now) m) result }
         ensures queues { IfOk result (λ plan. IsQueuesPlanOf queues.now.part
             (asks_queues self.now.part queues.now.part (ask_of ask.now)) m plan.queues) }
         ensures blobs { IfOk result (λ plan. plan.blobs ≡ None) }
         ensures leases { IfOk result (λ plan. plan.leases ≡ None) }
+        ensures timers { IfOk result (λ plan. IsTimersPlanOf timers.now.part
+            (asks_timers self.now.part (ask_of ask.now)) m plan.timers) }
+        ensures masks { IfOk result (λ plan. GivesGoodMasks (ask_of ask.now)) }
     {
         match ask {
             WorkAsk::Configure { function, settings } => {
-                self.plan_configure(alloc, function, settings, queues, m)
+                self.plan_configure(alloc, function, settings, queues, timers, m)
             }
+            WorkAsk::Ready { function, run } => Ok(alone(make_ready(alloc, *function, *run)?)),
             WorkAsk::Nothing => Ok(alone(no_change(alloc, WorkDone::Nothing))),
         }
     }
@@ -61,16 +71,22 @@ impl Work {
         name: &str,
         settings: &FunctionSettings,
         queues: &Queues,
+        timers: &Timers,
         m: Moment,
     ) -> Result<WorkPlan, PlanFault>
         requires queues_idle { queue_edits.IsIdle queues.now }
         requires queues_numbers { queue_edits.HasNumbers queues.now.part }
+        requires timers_idle { timer_edits.IsIdle timers.now }
         ensures work { IsPlanOf self.now.part
             (made_by self.now.part (configuring self.now.part name.now settings.now)) result }
         ensures queues { IfOk result (λ plan. IsQueuesPlanOf queues.now.part
             (configuring_queues self.now.part queues.now.part name.now settings.now) m plan.queues) }
         ensures blobs { IfOk result (λ plan. plan.blobs ≡ None) }
         ensures leases { IfOk result (λ plan. plan.leases ≡ None) }
+        ensures timers { IfOk result (λ plan. IsTimersPlanOf timers.now.part
+            (configuring_timers self.now.part settings.now
+            (function_of name.now self.now.part.functions)) m plan.timers) }
+        ensures masks { IfOk result (λ plan. HasGoodMasks settings.now) }
     {
         let found = self.function_of(name);
         let number = number_or(self.next_function, found);
@@ -81,14 +97,17 @@ impl Work {
         if is_as(settings, found) {
             return Ok(alone(no_change(alloc, WorkDone::Same)));
         }
-        let work = set_function(alloc, number, name, settings)?;
-        if queues.has_queue(&queue) {
-            return Ok(alone(work));
-        }
-        let asking = Asking {
-            queues: QueueAsk::Make { queue },
-        };
-        with_queues(alloc, work, queues, &asking, m)
+        let other_trigger = has_other_trigger(settings, found);
+        let work = set_function(alloc, number, name, settings, other_trigger)?;
+        let queues = plan_queue(alloc, queue, queues, m)?;
+        let timers = plan_removal(alloc, number, other_trigger, timers, m);
+        Ok(WorkPlan {
+            work,
+            queues,
+            blobs: None,
+            leases: None,
+            timers,
+        })
     }
 }
 
@@ -98,40 +117,64 @@ fn alone(work: WorkChange) -> WorkPlan
     ensures queues { result.queues ≡ None }
     ensures blobs { result.blobs ≡ None }
     ensures leases { result.leases ≡ None }
+    ensures timers { result.timers ≡ None }
 {
     WorkPlan {
         work,
         queues: None,
         blobs: None,
         leases: None,
+        timers: None,
     }
 }
 
-// The plan of a change that asks something of the queues.
-fn with_queues(
+// What the queues make of a queue that may be missing. No rule refuses that it is made.
+#[tactic(auto, using(crate::proofs::Configuring::making_is_accepted))]
+fn plan_queue(
     alloc: Global,
-    work: WorkChange,
+    queue: Option<QueueName>,
     queues: &Queues,
-    asking: &Asking<'_>,
     m: Moment,
-) -> Result<WorkPlan, PlanFault>
+) -> Result<Option<QueueChange>, NoMemory>
     requires idle { queue_edits.IsIdle queues.now }
     requires numbers { queue_edits.HasNumbers queues.now.part }
-    ensures work { IfOk result (λ plan. plan.work ≡ work) }
-    ensures queues { IfOk result (λ plan.
-        IsQueuesPlanOf queues.now.part (Some (queue_ask_of asking.now.queues)) m plan.queues) }
-    ensures blobs { IfOk result (λ plan. plan.blobs ≡ None) }
-    ensures leases { IfOk result (λ plan. plan.leases ≡ None) }
-    ensures err { IfErr result (λ fault.
-        IsQueuesFaultOf queues.now.part (queue_ask_of asking.now.queues) m fault) }
+    ensures { IfOk result (λ change.
+        IsQueuesPlanOf queues.now.part (made_where_missing queues.now.part queue) m change) }
 {
-    let made = queues.plan(alloc, &asking.queues, m)?;
-    Ok(WorkPlan {
-        work,
-        queues: Some(made),
-        blobs: None,
-        leases: None,
-    })
+    let Some(queue) = queue else {
+        return Ok(None);
+    };
+    if queues.has_queue(&queue) {
+        return Ok(None);
+    }
+    let asking = Asking {
+        queues: QueueAsk::Make { queue },
+    };
+    match queues.plan(alloc, &asking.queues, m) {
+        Ok(change) => Ok(Some(change)),
+        Err(PlanFault::NoMemory) => Err(NoMemory),
+        Err(PlanFault::Rule(_)) => unreachable!(),
+    }
+}
+
+// What the timers make of a function that gets another trigger.
+fn plan_removal(
+    alloc: Global,
+    function: u64,
+    other_trigger: bool,
+    timers: &Timers,
+    m: Moment,
+) -> Option<TimerChange>
+    requires { timer_edits.IsIdle timers.now }
+    ensures { IsTimersPlanOf timers.now.part (removing function other_trigger) m result }
+{
+    if !other_trigger {
+        return None;
+    }
+    match timers.plan(alloc, &TimerAsk::Remove { function }, m) {
+        Ok(change) => Some(change),
+        Err(_) => unreachable!(),
+    }
 }
 
 // The number of a function that is there, or the next one.
@@ -154,6 +197,16 @@ fn is_as(settings: &FunctionSettings, found: Option<&Function>) -> bool
     }
 }
 
+// Whether a function is there and has another trigger.
+fn has_other_trigger(settings: &FunctionSettings, found: Option<&Function>) -> bool
+    ensures { result ≡ has_other_trigger settings.now (option_copied found.entry) }
+{
+    match found {
+        Some(function) => !same_trigger(&function.settings, settings),
+        None => false,
+    }
+}
+
 fn no_change(alloc: Global, done: WorkDone) -> WorkChange
     ensures { result ≡ record { acts = []; done = done } }
 {
@@ -163,15 +216,32 @@ fn no_change(alloc: Global, done: WorkDone) -> WorkChange
     }
 }
 
-// The change that gives a function this number and these settings.
+// The change that makes a run of a function ready.
+fn make_ready(alloc: Global, function: u64, run: TimerRun) -> Result<WorkChange, NoMemory>
+    ensures { IfOk result (λ change. change ≡ record {
+      acts = AddJob (record { function = function; run = run }) ∷ [];
+      done = Ready;
+    }) }
+{
+    let job = ReadyJob { function, run };
+    let mut acts = Vec::new(alloc);
+    acts.push(Act::AddJob { job })?;
+    Ok(WorkChange {
+        acts,
+        done: WorkDone::Ready,
+    })
+}
+
+// The change that gives a function this number and these settings. With another trigger its ready jobs go.
 fn set_function(
     alloc: Global,
     number: u64,
     name: &str,
     settings: &FunctionSettings,
+    other_trigger: bool,
 ) -> Result<WorkChange, NoMemory>
     ensures acts { IfOk result (λ change. change.acts
-        ≡ Set (configured number name.now settings.now) ∷ []) }
+        ≡ Set (configured number name.now settings.now) ∷ dropping number other_trigger) }
     ensures done { IfOk result (λ change. change.done ≡ Configured number) }
 {
     let function = Function {
@@ -181,6 +251,9 @@ fn set_function(
     };
     let mut acts = Vec::new(alloc);
     acts.push(Act::Set { function })?;
+    if other_trigger {
+        acts.push(Act::DropJobs { function: number })?;
+    }
     Ok(WorkChange {
         acts,
         done: WorkDone::Configured { number },

@@ -19,21 +19,22 @@ pub fn inner_queue(alloc: Global, number: u64) -> Result<QueueName, NoMemory>
     }
 }
 
-/// The queue on whose messages a function works, or the rule that its name breaks.
+/// The queue on whose messages a function works, if it does, or the rule that its name breaks.
 pub(crate) fn queue_of(
     alloc: Global,
     number: u64,
     settings: &FunctionSettings,
-) -> Result<QueueName, PlanFault>
+) -> Result<Option<QueueName>, PlanFault>
     ensures named { IfOk result (λ queue. queue_rule settings.now ≡ None) }
     ensures queue { IfOk result (λ queue. queue ≡ queue_of number settings.now) }
     ensures err { IfErr result (λ fault. IsFaultOf fault (queue_rule settings.now)) }
 {
     match settings {
         FunctionSettings::Queue { queue, .. } => match QueueName::read(queue.as_str()) {
-            Some(queue) => Ok(queue),
+            Some(queue) => Ok(Some(queue)),
             None => Err(PlanFault::Rule(Rule::BadName)),
         },
-        FunctionSettings::Blob { .. } => Ok(inner_queue(alloc, number)?),
+        FunctionSettings::Blob { .. } => Ok(Some(inner_queue(alloc, number)?)),
+        FunctionSettings::Timer { .. } => Ok(None),
     }
 }

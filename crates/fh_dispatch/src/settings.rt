@@ -1,6 +1,6 @@
 // Settings side by side.
 ghost use Rattle.std.specs.Prelude.{◌≡◌, IfOk};
-ghost use Rattle.fh_dispatch.specs.Settings.{same_settings};
+ghost use Rattle.fh_dispatch.specs.Settings.{same_settings, same_trigger};
 
 use fh_base::NoMemory;
 use fh_event::FunctionSettings;
@@ -34,7 +34,7 @@ pub(crate) fn same_settings(one: &FunctionSettings, other: &FunctionSettings) ->
                     && *retry == *other_retry
                     && *singleton == *other_singleton
             }
-            FunctionSettings::Blob { .. } => false,
+            FunctionSettings::Blob { .. } | FunctionSettings::Timer { .. } => false,
         },
         FunctionSettings::Blob {
             batch,
@@ -56,7 +56,46 @@ pub(crate) fn same_settings(one: &FunctionSettings, other: &FunctionSettings) ->
                     && *retry == *other_retry
                     && *singleton == *other_singleton
             }
-            FunctionSettings::Queue { .. } => false,
+            FunctionSettings::Queue { .. } | FunctionSettings::Timer { .. } => false,
+        },
+        FunctionSettings::Timer {
+            masks,
+            startup,
+            monitor,
+            singleton,
+        } => match other {
+            FunctionSettings::Timer {
+                masks: other_masks,
+                startup: other_startup,
+                monitor: other_monitor,
+                singleton: other_singleton,
+            } => {
+                masks.as_slice() == other_masks.as_slice()
+                    && *startup == *other_startup
+                    && *monitor == *other_monitor
+                    && *singleton == *other_singleton
+            }
+            FunctionSettings::Queue { .. } | FunctionSettings::Blob { .. } => false,
+        },
+    }
+}
+
+/// Whether two settings have the same trigger: the same kind, with the same queue or schedule.
+pub(crate) fn same_trigger(one: &FunctionSettings, other: &FunctionSettings) -> bool
+    ensures { result ≡ same_trigger one.now other.now }
+{
+    match one {
+        FunctionSettings::Queue { queue, .. } => match other {
+            FunctionSettings::Queue { queue: theirs, .. } => queue.as_str() == theirs.as_str(),
+            FunctionSettings::Blob { .. } | FunctionSettings::Timer { .. } => false,
+        },
+        FunctionSettings::Blob { .. } => match other {
+            FunctionSettings::Blob { .. } => true,
+            FunctionSettings::Queue { .. } | FunctionSettings::Timer { .. } => false,
+        },
+        FunctionSettings::Timer { masks, .. } => match other {
+            FunctionSettings::Timer { masks: theirs, .. } => masks.as_slice() == theirs.as_slice(),
+            FunctionSettings::Queue { .. } | FunctionSettings::Blob { .. } => false,
         },
     }
 }
@@ -95,6 +134,17 @@ pub(crate) fn copy_settings(
             threshold: *threshold,
             limit: *limit,
             retry: *retry,
+            singleton: *singleton,
+        }),
+        FunctionSettings::Timer {
+            masks,
+            startup,
+            monitor,
+            singleton,
+        } => Ok(FunctionSettings::Timer {
+            masks: *masks,
+            startup: *startup,
+            monitor: *monitor,
             singleton: *singleton,
         }),
     }

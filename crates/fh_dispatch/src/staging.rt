@@ -19,8 +19,9 @@ impl Work {
         ensures err { OnErr result (IsIdle self.new) }
     {
         let WorkChange { acts, done } = change;
-        // Each act adds one function at most.
+        // Each act adds one function or one job at most.
         self.functions.reserve(acts.len())?;
+        self.ready.reserve(acts.len())?;
         Ok(StagedWork { acts, done })
     }
 
@@ -49,9 +50,11 @@ impl Work {
     #[tactic(auto, unfolding(crate::specs::Acts::acted))]
     fn act(&mut self, act: Act)
         requires room { 1 ≤ self.old.room }
+        requires job_room { 1 ≤ self.old.job_room }
         requires numbers { self.old.part.next_function + 1 < 2 ^ 64 }
         ensures part { self.new.part ≡ acted self.old.part act }
         ensures room { self.old.room ≤ self.new.room + 1 }
+        ensures job_room { self.old.job_room ≤ self.new.job_room + 1 }
         ensures numbers { self.new.part.next_function ≤ self.old.part.next_function + 1 }
     {
         match act {
@@ -59,6 +62,8 @@ impl Work {
                 self.next_function = next_after(self.next_function, function.number);
                 self.functions.set(function);
             }
+            Act::AddJob { job } => self.ready.add(job),
+            Act::DropJobs { function } => self.ready.drop_of(function),
         }
     }
 }

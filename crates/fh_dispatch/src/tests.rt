@@ -7,7 +7,9 @@ use fh_base::{Moment, Rule, Text};
 use fh_blobs::Blobs;
 use fh_event::{FunctionSettings, PlanFault};
 use fh_leases::Leases;
+use fh_ncrontab::Schedule;
 use fh_queues::Queues;
+use fh_timers::{TimerRun, Timers};
 use std::alloc::{AllocGlobal, Global};
 use std::process::Abort;
 use std::test::Fail;
@@ -21,10 +23,14 @@ struct Numbers {
     singleton: u64,
 }
 
-// What a configure is answered, and whether it makes a queue.
+// What a configure is answered, whether it makes a queue, and whether it removes a row of the timers.
 #[derive(Clone, Copy, Debug, PartialEq, Eq)]
 enum Told {
-    Configured { number: u64, makes: bool },
+    Configured {
+        number: u64,
+        makes: bool,
+        removes: bool,
+    },
     Same,
     Refused(Rule),
 }
@@ -52,6 +58,7 @@ const fn new(number: u64) -> Told {
     Told::Configured {
         number,
         makes: true,
+        removes: false,
     }
 }
 
@@ -100,13 +107,13 @@ const fn on_blobs(given: Numbers) -> FunctionSettings {
     }
 }
 
-// Plans, stages and settles an ask, and says whether a queue is to be made.
+// Plans, stages and settles an ask, and says whether a queue is to be made and a row of the timers removed.
 fn done(
     rt: &(impl Abort + AllocGlobal),
     work: &mut Work,
     queues: &Queues,
     ask: &WorkAsk<'_>,
-) -> Result<(WorkDone, bool), PlanFault>
+) -> Result<(WorkDone, bool, bool), PlanFault>
     requires idle { queue_edits.IsIdle queues.now }
     requires numbers { queue_edits.HasNumbers queues.now.part }
 {
@@ -116,14 +123,16 @@ fn done(
     };
     let blobs = Blobs::new(rt.alloc());
     let leases = Leases::new(rt.alloc());
-    let plan = work.plan(rt.alloc(), ask, queues, &blobs, &leases, m)?;
+    let timers = Timers::new(rt.alloc());
+    let plan = work.plan(rt.alloc(), ask, queues, &blobs, &leases, &timers, m)?;
     let makes = plan.queues.is_some();
+    let removes = plan.timers.is_some();
     let change = plan.work;
     if change.is_quiet() {
-        return Ok((change.into_done(), makes));
+        return Ok((change.into_done(), makes, removes));
     }
     let staged = work.stage(change)?;
-    Ok((work.settle(staged), makes))
+    Ok((work.settle(staged), makes, removes))
 }
 
 fn configure(
@@ -138,9 +147,13 @@ fn configure(
 {
     let ask = WorkAsk::Configure { function, settings };
     match done(rt, work, queues, &ask) {
-        Ok((WorkDone::Configured { number }, makes)) => Ok(Told::Configured { number, makes }),
-        Ok((WorkDone::Same, false)) => Ok(Told::Same),
-        Ok((_, _)) => Err("another answer".into()),
+        Ok((WorkDone::Configured { number }, makes, removes)) => Ok(Told::Configured {
+            number,
+            makes,
+            removes,
+        }),
+        Ok((WorkDone::Same, false, false)) => Ok(Told::Same),
+        Ok((_, _, _)) => Err("another answer".into()),
         Err(PlanFault::Rule(rule)) => Ok(Told::Refused(rule)),
         Err(PlanFault::NoMemory) => Err("memory was refused".into()),
     }
@@ -233,11 +246,160 @@ fn what_is_let_go_leaves_the_work(rt: HostRuntime) -> Result<(), Fail> {
     };
     let blobs = Blobs::new(rt.alloc());
     let leases = Leases::new(rt.alloc());
-    let plan = work.plan(rt.alloc(), &ask, &queues, &blobs, &leases, start()?)?;
+    let timers = Timers::new(rt.alloc());
+    let plan = work.plan(
+        rt.alloc(),
+        &ask,
+        &queues,
+        &blobs,
+        &leases,
+        &timers,
+        start()?,
+    )?;
     let staged = work.stage(plan.work)?;
     work.unstage(staged);
     assert!(&rt; work.function_of("f").is_none());
-    let (nothing, makes) = done(&rt, &mut work, &queues, &WorkAsk::Nothing)?;
-    assert!(&rt; matches!(nothing, WorkDone::Nothing) && !makes);
+    let (nothing, makes, removes) = done(&rt, &mut work, &queues, &WorkAsk::Nothing)?;
+    assert!(&rt; matches!(nothing, WorkDone::Nothing) && !makes && !removes);
+    Ok(())
+}
+
+// Midnight of each first of January that is a Sunday.
+const RARE: [u64; 6] = [1, 1, 1, 2, 2, 1];
+
+const fn on_schedule(masks: [u64; 6], startup: bool, singleton: u64) -> FunctionSettings {
+    FunctionSettings::Timer {
+        masks,
+        startup,
+        monitor: true,
+        singleton,
+    }
+}
+
+const fn timer(number: u64, removes: bool) -> Told {
+    Told::Configured {
+        number,
+        makes: false,
+        removes,
+    }
+}
+
+#[test]
+fn masks_are_tested_in_order(rt: HostRuntime) -> Result<(), Fail> {
+    let sixty = (1 << 60) - 1;
+    let rows = [
+        (RARE, 0, timer(1, false)),
+        ([0, 0, 0, 0, 0, 0], 14, outside(0, 1, sixty)),
+        ([1 << 60, 0, 0, 0, 0, 0], 14, outside(1 << 60, 1, sixty)),
+        ([1, 0, 0, 0, 0, 0], 14, outside(0, 1, sixty)),
+        ([1, 1, 1 << 24, 0, 0, 0], 14, outside(1 << 24, 1, 0xff_ffff)),
+        ([1, 1, 1, 1, 0, 0], 14, outside(1, 1, 0xffff_fffe)),
+        (
+            [1, 1, 1, 1 << 32, 0, 0],
+            14,
+            outside(1 << 32, 1, 0xffff_fffe),
+        ),
+        ([1, 1, 1, 2, 1, 0], 14, outside(1, 1, 0x1ffe)),
+        ([1, 1, 1, 2, 1 << 13, 0], 14, outside(1 << 13, 1, 0x1ffe)),
+        ([1, 1, 1, 2, 2, 128], 14, outside(128, 1, 127)),
+        (RARE, 14, outside(14, 15, 60)),
+    ];
+    let queues = Queues::new(rt.alloc());
+    for (masks, singleton, expected) in rows {
+        let mut work = Work::new(rt.alloc());
+        let settings = on_schedule(masks, false, singleton);
+        let told = configure(&rt, &mut work, &queues, "t", &settings)?;
+        assert_eq!(&rt; told, expected);
+    }
+    Ok(())
+}
+
+const fn run(due: u64) -> TimerRun {
+    TimerRun {
+        due: Some(due),
+        past_due: false,
+    }
+}
+
+// Makes a run of a function ready.
+fn make_ready(
+    rt: &(impl Abort + AllocGlobal),
+    work: &mut Work,
+    function: u64,
+    due: u64,
+) -> Result<(), Fail> {
+    let queues = Queues::new(rt.alloc());
+    let ask = WorkAsk::Ready {
+        function,
+        run: run(due),
+    };
+    match done(rt, work, &queues, &ask) {
+        Ok((WorkDone::Ready, false, false)) => Ok(()),
+        _ => Err("another answer".into()),
+    }
+}
+
+#[test]
+fn another_trigger_drops_what_is_ready(rt: HostRuntime) -> Result<(), Fail> {
+    let mut work = Work::new(rt.alloc());
+    let queues = Queues::new(rt.alloc());
+    let [_, minute, hour, day, month, weekday] = RARE;
+    let on_queue = Told::Configured {
+        number: 1,
+        makes: true,
+        removes: true,
+    };
+    let steps = [
+        (on_schedule(RARE, false, 0), timer(1, false), 1),
+        (on_schedule(RARE, false, 0), Told::Same, 2),
+        (on_schedule(RARE, true, 0), timer(1, false), 3),
+        (
+            on_schedule([2, minute, hour, day, month, weekday], true, 0),
+            timer(1, true),
+            1,
+        ),
+        (on_blobs(usual()), on_queue, 1),
+        (on_blobs(of_numbers([1, 8, 5, 0, 0])), new(1), 2),
+        (on_schedule(RARE, false, 0), timer(1, true), 1),
+    ];
+    make_ready(&rt, &mut work, 2, 7)?;
+    for (settings, expected, ready) in steps {
+        let told = configure(&rt, &mut work, &queues, "t", &settings)?;
+        assert_eq!(&rt; told, expected);
+        make_ready(&rt, &mut work, 1, 7)?;
+        assert_eq!(&rt; work.in_work(1), ready);
+        assert_eq!(&rt; work.in_work(2), 1);
+    }
+    Ok(())
+}
+
+#[test]
+fn jobs_of_a_function_are_in_the_order_in_which_they_came(rt: HostRuntime) -> Result<(), Fail> {
+    let mut work = Work::new(rt.alloc());
+    make_ready(&rt, &mut work, 2, 10)?;
+    make_ready(&rt, &mut work, 1, 20)?;
+    make_ready(&rt, &mut work, 2, 5)?;
+    assert!(&rt; work.in_work(1) == 1 && work.in_work(2) == 2 && !work.is_busy(3));
+    let jobs = work.jobs_of(2);
+    let first = jobs.first().ok_or("a job")?;
+    assert!(&rt; first.run.due == Some(10));
+    Ok(())
+}
+
+#[test]
+fn a_timer_is_told_by_its_schedule(rt: HostRuntime) -> Result<(), Fail> {
+    let mut work = Work::new(rt.alloc());
+    let queues = Queues::new(rt.alloc());
+    configure(&rt, &mut work, &queues, "b", &on_blobs(usual()))?;
+    configure(&rt, &mut work, &queues, "t", &on_schedule(RARE, true, 0))?;
+    let schedule = Schedule::of_masks(RARE).ok_or("a schedule")?;
+    let timer = Timer {
+        function: 2,
+        schedule,
+        startup: true,
+        monitor: true,
+    };
+    assert_eq!(&rt; work.timer_of("t"), Some(timer));
+    assert!(&rt; work.timer_of("b").is_none() && work.timer_of("x").is_none());
     Ok(())
 }

@@ -1,18 +1,23 @@
 // The work, as it is kept, and what is read of it.
 ghost use Rattle.std.specs.Prelude.{◌≡◌, option_copied};
 ghost use Rattle.fh_dispatch.specs.Part.{no_work, function_of};
+ghost use Rattle.fh_dispatch.specs.Ready.{jobs_of, in_work, is_busy};
+ghost use Rattle.fh_dispatch.specs.Timers.{timer_of};
 ghost use Rattle.fh_dispatch.specs.Edits.{IsIdle};
 
-use crate::Function;
 use crate::function::Name;
+use crate::ready::ReadyJobs;
+use crate::timer::timer_by;
+use crate::{Function, ReadyJob, Timer};
 use fh_rows::Rows;
 use std::alloc::Global;
 use std::marker::Model;
 
-/// Functions in order of their names, and the number that the next new one gets.
+/// Functions in order of their names, the jobs that are ready, and the number that the next new function gets.
 #[derive(Drop)]
 pub struct Work {
     pub(crate) functions: Rows<Function>,
+    pub(crate) ready: ReadyJobs,
     pub(crate) next_function: u64,
 }
 
@@ -22,8 +27,9 @@ impl Model for Work {
     ghost Value = { WorkState };
 
     ghost view = { λ w. record {
-      part = record { functions = w.functions.rows; next_function = w.next_function };
+      part = record { functions = w.functions.rows; ready = w.ready.rows; next_function = w.next_function };
       room = w.functions.room;
+      job_room = w.ready.room;
     } };
 }
 
@@ -35,6 +41,7 @@ impl Work {
     {
         Work {
             functions: Rows::new(alloc),
+            ready: ReadyJobs::new(alloc),
             next_function: 1,
         }
     }
@@ -44,5 +51,34 @@ impl Work {
         ensures { option_copied result ≡ function_of name.now self.now.part.functions }
     {
         self.functions.get(&Name { name })
+    }
+
+    /// The timer of a function as it is, where the function is there and runs by a schedule. Takes no memory.
+    pub fn timer_of(&self, name: &str) -> Option<Timer>
+        ensures { result ≡ timer_of name.now self.now.part.functions }
+    {
+        let function = self.function_of(name)?;
+        timer_by(function.number, &function.settings)
+    }
+
+    /// The ready jobs of the function of this number, in the order in which they came. Takes no memory.
+    pub fn jobs_of(&self, function: u64) -> &[ReadyJob]
+        ensures { result.now ≡ jobs_of function self.now.part.ready }
+    {
+        self.ready.of(function)
+    }
+
+    /// How many jobs of the function of this number are in work. Takes no memory.
+    pub fn in_work(&self, function: u64) -> u64
+        ensures { result ≡ in_work function self.now.part.ready }
+    {
+        self.ready.of(function).len() as u64
+    }
+
+    /// Whether a job of the function of this number is in work. Takes no memory.
+    pub fn is_busy(&self, function: u64) -> bool
+        ensures { result ≡ is_busy function self.now.part.ready }
+    {
+        self.in_work(function) != 0
     }
 }

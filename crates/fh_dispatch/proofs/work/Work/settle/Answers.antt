@@ -9,6 +9,7 @@ act-requires c =
     let steps = ap length c.in-Some.ensures.steps.0 in
     record {
       room = omega (arith, c.loop-act.invariant.room, steps);
+      job_room = omega (arith, c.loop-act.invariant.job_room, steps);
       numbers = omega (arith, c.loop-act.invariant.numbers, steps);
     }
 
@@ -22,5 +23,6 @@ loop-act-preserved c =
       left = ap (λ (p : WorkPart). by_acts p (into_iter_items c.next.new.self)) c.act.ensures.part ∙ sym (ap (by_acts at.self.part) steps) ∙ at.invariant.left;
       len = omega (arith, at.invariant.len, gone, short);
       room = omega (arith, at.invariant.room, c.act.ensures.room, short);
+      job_room = omega (arith, at.invariant.job_room, c.act.ensures.job_room, short);
       numbers = omega (arith, at.invariant.numbers, c.act.ensures.numbers, short);
     }

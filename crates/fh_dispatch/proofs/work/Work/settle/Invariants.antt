@@ -8,5 +8,6 @@ invariant-loop-act l = record {
   left : by_acts l.self.part (into_iter_items l.act-iterator) ≡ by_acts l.fn.self.part l.fn.staged.acts;
   len : into_iter_len l.act-iterator ≡ length (into_iter_items l.act-iterator);
   room : length (into_iter_items l.act-iterator) ≤ l.self.room;
+  job_room : length (into_iter_items l.act-iterator) ≤ l.self.job_room;
   numbers : l.self.part.next_function + length (into_iter_items l.act-iterator) < 2 ^ 64;
 }

@@ -1,0 +1,30 @@
+-- The jobs that are ready: in order of function number, and those of a function in the order in which they came.
+use Rattle.std.specs.Prelude.{ℕ, ◌==◌, nat_le, nat_lt, Bool, not, List, ◌∷◌, ◌++◌, length, filter}
+use Rattle.std.specs.List.Sorted.{IsNonDecreasingBy}
+use Rattle.fh_dispatch.specs.declared.ready.ReadyJob.{ReadyJob}
+
+-- no job stands before one of a function of a lower number
+abbrev pub AreInOrder : List ReadyJob → Type 0
+AreInOrder jobs = IsNonDecreasingBy (λ job. job.function) jobs
+
+-- the jobs of the function of this number
+abbrev pub jobs_of : ℕ → List ReadyJob → List ReadyJob
+jobs_of function ready = filter (λ job. job.function == function) ready
+
+-- how many jobs of the function are in work
+abbrev pub in_work : ℕ → List ReadyJob → ℕ
+in_work function ready = length (jobs_of function ready)
+
+-- a job of the function is in work
+abbrev pub is_busy : ℕ → List ReadyJob → Bool
+is_busy function ready = not (in_work function ready == 0)
+
+-- the job behind those that its function has
+abbrev pub with_job : ReadyJob → List ReadyJob → List ReadyJob
+with_job job ready =
+    filter (λ other. nat_le other.function job.function) ready
+    ++ job ∷ filter (λ other. nat_lt job.function other.function) ready
+
+-- no job of the function
+abbrev pub without_jobs_of : ℕ → List ReadyJob → List ReadyJob
+without_jobs_of function ready = filter (λ job. not (job.function == function)) ready
