@@ -6,10 +6,11 @@ use Rattle.std.proofs.lemmas.Nat.{mul-le}
 use Rattle.std.proofs.lemmas.Bool.Decides.{nat_tests}
 use Rattle.fh_journal.specs.Journal.{gate_behind, full_at, most_bytes}
 use Rattle.fh_event.specs.declared.command.Command.{Command}
-use Rattle.fh_event.specs.declared.command.Command.TheVariants.{PutBlob}
+use Rattle.fh_event.specs.declared.command.Command.TheVariants.{PutBlob, Note, Arm, Tick}
 use Rattle.fh_blobs.specs.Laws.{new_versions}
 use Rattle.fh_blobs.proofs.Lawful.{moves_versions}
-use Rattle.fh_hub.specs.Asked.{blob_ask}
+use Rattle.fh_hub.specs.Asked.{asks_in}
+use Rattle.fh_dispatch.proofs.Lawful.{moves_numbers}
 use Rattle.fh_hub.specs.Stores.{Parts, Asks, Done}
 use Rattle.fh_hub.specs.StoreEdits.{HasNumbers, IsOutcome, parts_of}
 use Rattle.fh_hub.proofs.Outcomes.{all_make}
@@ -31,12 +32,16 @@ has_numbers s bounded =
     record {
       queues = (omega (arith, bounded.number, bounded.within), omega (arith, bounded.receipt, square));
       blobs = omega (arith, bounded.version, bounded.within);
+      work = omega (arith, bounded.function, bounded.within);
     }
 
 -- no command takes more than one version
-few_versions : (command : Command) → new_versions (blob_ask command) ≤ 1
-few_versions (PutBlob container blob text) = omega arith
-few_versions command = omega arith
+few_versions : (parts : Parts) (command : Command) (m : ℕ) → new_versions (asks_in parts command m).blobs ≤ 1
+few_versions parts (PutBlob container blob text) m = omega arith
+few_versions parts (Note function container blob) m = omega arith
+few_versions parts (Arm function) m = omega arith
+few_versions parts (Tick function) m = omega arith
+few_versions parts command m = omega arith
 
 -- a version more stays within a gate that has gone on
 pub versions_within : (parts after : Parts) (done : Done) (gate size : ℕ) → IsOutcome parts after done → parts.blobs.next_version ≤ gate
@@ -45,8 +50,15 @@ versions_within parts after done gate size is within =
     let told = asks_as_told parts is.command is.moment is.asks is.asked in
     let did = (all_make parts is.asks is.moment after done is.is).blobs in
     let moves = moves_versions parts.blobs is.asks.blobs is.moment after.blobs done.blobs did in
-    let few : new_versions is.asks.blobs ≤ 1 = subst (λ (a : Asks). new_versions a.blobs ≤ 1) (sym told) (few_versions is.command) in
+    let few : new_versions is.asks.blobs ≤ 1 = subst (λ (a : Asks). new_versions a.blobs ≤ 1) (sym told) (few_versions parts is.command is.moment) in
     omega (arith, moves, few, within)
+
+-- a function more stays within it
+pub functions_within : (parts after : Parts) (done : Done) (gate size : ℕ) → IsOutcome parts after done → parts.work.next_function ≤ gate
+    → after.work.next_function ≤ gate_behind gate size
+functions_within parts after done gate size is within =
+    let moves = moves_numbers parts.work is.asks.work is.moment after.work done.work (all_make parts is.asks is.moment after done is.is).work in
+    omega (arith, moves, within)
 
 -- the gate stands behind the header
 pub begins : (s : HubState) → IsBounded s → 6 ≤ s.gate

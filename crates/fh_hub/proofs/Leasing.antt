@@ -6,44 +6,31 @@ use Rattle.std.proofs.lemmas.List.Sums.{fold_push}
 use Rattle.fh_event.specs.declared.command.Command.{Command}
 use Rattle.fh_event.specs.declared.command.Command.TheVariants.{Acquire, RenewLease, ReleaseLease}
 use Rattle.fh_event.specs.declared.reply.Reply.{Reply}
-use Rattle.fh_event.specs.Judging as judging
-use Rattle.fh_queues.specs.declared.done.QueueDone.{QueueDone}
 use Rattle.fh_queues.specs.declared.done.QueueDone.TheVariants as queue_done
 use Rattle.fh_queues.specs.Asks as queue_asks
-use Rattle.fh_queues.specs.Part.{QueuePart}
-use Rattle.fh_queues.specs.Outcome.{acting}
-use Rattle.fh_queues.specs.Outcome as queues
+use Rattle.fh_queues.specs.Laws as queue_laws
 use Rattle.fh_queues.specs.Tellings.{newer}
-use Rattle.fh_blobs.specs.declared.done.BlobDone.{BlobDone}
 use Rattle.fh_blobs.specs.declared.done.BlobDone.TheVariants as blob_done
 use Rattle.fh_blobs.specs.Asks as blob_asks
-use Rattle.fh_blobs.specs.Part.{BlobPart}
-use Rattle.fh_blobs.specs.Outcome.{acting as acting_blobs}
-use Rattle.fh_blobs.specs.Outcome as blobs
+use Rattle.fh_blobs.specs.Laws as blob_laws
+use Rattle.fh_blobs.proofs.Lawful.{answers_the_ask as blobs_answer}
 use Rattle.fh_leases.specs.declared.done.LeaseDone.{LeaseDone}
 use Rattle.fh_leases.specs.declared.done.LeaseDone.TheVariants as lease_done
 use Rattle.fh_leases.specs.Asks as leases
 use Rattle.fh_leases.specs.Part.{LeasePart, holder_at}
 use Rattle.fh_leases.specs.Laws.{granted, taken, end_of, KeepsUnlessOver, TellsOfHolders}
 use Rattle.fh_leases.proofs.Lawful.{tells, one_holder, told as told_of_holder}
-use Rattle.fh_hub.specs.Asked.{lease_ask}
+use Rattle.fh_timers.specs.declared.done.TimerDone.TheVariants as timer_done
+use Rattle.fh_dispatch.specs.declared.done.WorkDone.TheVariants as work_done
+use Rattle.fh_hub.specs.Asked.{queue_ask_in, blob_ask_in, lease_ask}
 use Rattle.fh_hub.specs.Stores.{Done}
-use Rattle.fh_hub.specs.Replies.{reply_of_leases, reply_of_blobs, reply_of_queues, reply_of}
+use Rattle.fh_hub.specs.Replies.{reply_of_leases, reply_of}
 use Rattle.fh_hub.specs.World.{World, empty, effective_moment}
 use Rattle.fh_hub.specs.Replay.{Entry, Event, trace, replay}
 use Rattle.fh_hub.specs.Places.{ends_after}
 use Rattle.fh_hub.specs.Holders.{granted_by, is_taken_by, unless_taken, last_grant, holds, IsHeldByOne}
-use Rattle.fh_hub.proofs.Steps.{Made, IsKept, event, kept_by_all}
-
--- ---- what the other stores answer where they are asked for nothing
-
-swept : (part : QueuePart) (m : ℕ) (after : QueuePart) (answer : QueueDone) → queues.outcome part queue_asks.Sweep m ≡ judging.Makes after answer → answer ≡ queue_done.Swept
-unfolding queues.outcome acting
-swept part m after answer is = cc
-
-nothing_done : (part : BlobPart) (m : ℕ) (after : BlobPart) (answer : BlobDone) → blobs.outcome part blob_asks.Nothing m ≡ judging.Makes after answer → answer ≡ blob_done.Nothing
-unfolding blobs.outcome acting_blobs
-nothing_done part m after answer is = cc
+use Rattle.fh_hub.proofs.Steps.{Made, is_configure, is_timed, asked_plainly, IsKept, event, kept_by_all}
+use Rattle.fh_hub.proofs.Answering.{swept, nothing_done, queues_answered, work_rests, timers_rest}
 
 -- ---- grants
 
@@ -58,23 +45,26 @@ by_renewal x h lease holder (lease_done.Renewed until) = refl
 by_renewal x h lease holder answer = refl
 
 -- a reply is that of the leases where the other stores did nothing
-of_leases : (answer : Done) → answer.queues ≡ queue_done.Swept → answer.blobs ≡ blob_done.Nothing → reply_of answer ≡ reply_of_leases answer.leases
-of_leases answer queues blobs =
-    ap (reply_of_queues (reply_of_blobs (reply_of_leases answer.leases) answer.blobs)) queues ∙ ap (reply_of_blobs (reply_of_leases answer.leases)) blobs
+of_leases : (answer : Done) → answer.queues ≡ queue_done.Swept → answer.blobs ≡ blob_done.Nothing → answer.timers ≡ timer_done.Nothing → answer.work ≡ work_done.Nothing → reply_of answer ≡ reply_of_leases answer.leases
+of_leases answer queues blobs timers work = rw (queues, blobs, timers, work) refl
+
+-- so it is where a command asks nothing of them
+alone : (w : World) (command : Command) (now : ℕ) (new : World) (reply : Reply) (made : Made w command now new reply)
+    → is_configure command ≡ false → is_timed command ≡ false → queue_ask_in w.parts command ≡ queue_asks.Sweep → blob_ask_in w.parts command ≡ blob_asks.Nothing
+    → reply ≡ reply_of_leases made.done.leases
+alone w command now new reply made plain untimed sweeps leaves =
+    let m = effective_moment w now in
+    let queues = swept made.done.queues (subst (λ (a : queue_asks.Ask). queue_laws.answers a made.done.queues ≡ true) (asked_plainly w.parts command made.ask plain made.asked ∙ sweeps) (queues_answered w command now new reply made)) in
+    let blobs = nothing_done made.done.blobs (subst (λ (a : blob_asks.Ask). blob_laws.answers a made.done.blobs ≡ true) leaves (blobs_answer w.parts.blobs (blob_ask_in w.parts command) m new.parts.blobs made.done.blobs made.blobs)) in
+    made.replies ∙ of_leases made.done queues blobs (timers_rest w command now new reply made plain untimed) (work_rests w command now new reply made plain untimed)
 
 grants_as_told : (x : List ℕ) (h : ℕ) (w : World) (command : Command) (now : ℕ) (new : World) (reply : Reply) (made : Made w command now new reply)
     → granted_by x h command reply ≡ granted x h (lease_ask command) made.done.leases
 grants_as_told x h w (Acquire lease holder seconds) now new reply made =
-    let m = effective_moment w now in
-    let queues = swept w.parts.queues m new.parts.queues made.done.queues made.queues in
-    let blobs = nothing_done w.parts.blobs m new.parts.blobs made.done.blobs made.blobs in
-    ap (granted_by x h (Acquire lease holder seconds)) (made.replies ∙ of_leases made.done queues blobs)
+    ap (granted_by x h (Acquire lease holder seconds)) (alone w (Acquire lease holder seconds) now new reply made refl refl refl refl)
     ∙ by_acquire x h lease holder seconds made.done.leases
 grants_as_told x h w (RenewLease lease holder) now new reply made =
-    let m = effective_moment w now in
-    let queues = swept w.parts.queues m new.parts.queues made.done.queues made.queues in
-    let blobs = nothing_done w.parts.blobs m new.parts.blobs made.done.blobs made.blobs in
-    ap (granted_by x h (RenewLease lease holder)) (made.replies ∙ of_leases made.done queues blobs)
+    ap (granted_by x h (RenewLease lease holder)) (alone w (RenewLease lease holder) now new reply made refl refl refl refl)
     ∙ by_renewal x h lease holder made.done.leases
 grants_as_told x h w (ReleaseLease lease holder) now new reply made = refl
 grants_as_told x h w command now new reply made = refl

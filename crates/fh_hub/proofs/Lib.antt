@@ -7,6 +7,7 @@ pub mod Replays
 pub mod Spelling
 pub mod Steps
 pub mod Births
+pub mod Answering
 pub mod Told
 pub mod Places
 pub mod Guarding
@@ -14,3 +15,5 @@ pub mod Rising
 pub mod Turns
 pub mod Bounds
 pub mod Leasing
+pub mod Noting
+pub mod Timing

@@ -1,5 +1,5 @@
 -- What the stores do together is what each does.
-use Rattle.std.proofs.Common.{◌≡◌, ℕ, refl, ap, subst, Bool, true, false, List, [], ◌∷◌}
+use Rattle.std.proofs.Common.{◌≡◌, ℕ, refl, ap, ◌∙◌, subst, Bool, true, false, List, [], ◌∷◌}
 use Rattle.std.specs.Prelude.{Result, Ok, Err, ⊤}
 use Rattle.fh_base.specs.declared.rule.Rule.{Rule}
 use Rattle.fh_event.specs.declared.faults.PlanFault.{PlanFault}
@@ -20,7 +20,20 @@ use Rattle.fh_leases.specs.declared.done.LeaseDone.{LeaseDone}
 use Rattle.fh_leases.specs.Part.{LeasePart}
 use Rattle.fh_leases.specs.Outcome as leases
 use Rattle.fh_leases.specs.Edits as lease_edits
-use Rattle.fh_hub.specs.Stores.{Parts, Asks, Done, parts_with, done_with, of_all, joined, outcomes}
+use Rattle.fh_timers.specs.declared.done.TimerDone.{TimerDone}
+use Rattle.fh_timers.specs.declared.done.TimerDone.TheVariants as timer_done
+use Rattle.fh_timers.specs.declared.act.Act.{Act as TimerAct}
+use Rattle.fh_timers.specs.Part.{TimerPart}
+use Rattle.fh_timers.specs.Outcome as timers
+use Rattle.fh_timers.specs.Edits as timer_edits
+use Rattle.fh_dispatch.specs.declared.done.WorkDone.{WorkDone}
+use Rattle.fh_dispatch.specs.declared.done.WorkDone.TheVariants as work_done
+use Rattle.fh_dispatch.specs.declared.act.Act.{Act as WorkAct}
+use Rattle.fh_dispatch.specs.Part.{WorkPart}
+use Rattle.fh_dispatch.specs.Outcome as work
+use Rattle.fh_dispatch.specs.Edits as work_edits
+use Rattle.fh_dispatch.specs.Faults as work_faults
+use Rattle.fh_hub.specs.Stores.{Parts, Asks, Done, AllParts, AllDone, asked_timers, asked_queues, parts_with, done_with, of_all, led_by, joined, outcomes}
 use Rattle.fh_hub.specs.StoreEdits.{IsPlanOf, both_planned, IsOutcome}
 
 -- ---- plans
@@ -81,33 +94,85 @@ blobs_accepted : (part : BlobPart) (acts : List BlobAct) (done : BlobDone) → i
 blobs_accepted part acts blob_done.Noted = refl
 blobs_accepted part acts done = refl
 
--- a plan of all stores that has a fault has that of the outcome
-pub fault_of_all : (parts : Parts) (asks : Asks) (m : ℕ) (of_queues : Result queue_edits.Change PlanFault) (of_blobs : Result blob_edits.Change PlanFault)
-    (of_leases : Result lease_edits.Change PlanFault) (fault : PlanFault)
-    → Plans (queues.outcome parts.queues asks.queues m) (queue_edits.planned parts.queues) of_queues
-    → Plans (blobs.outcome parts.blobs asks.blobs m) (blob_edits.planned parts.blobs) of_blobs
-    → Plans (leases.outcome parts.leases asks.leases m) (lease_edits.planned parts.leases) of_leases
-    → both_planned of_queues (both_planned of_blobs of_leases) ≡ Err fault → IsPlanOf parts (outcomes parts asks m) (Err fault)
+work_accepted : (part : WorkPart) (acts : List WorkAct) (done : WorkDone) → is_accepted (work_edits.judged part acts done) ≡ true
+work_accepted part acts work_done.Same = refl
+work_accepted part acts done = refl
+
+timers_accepted : (part : TimerPart) (act : TimerAct) (done : TimerDone) → is_accepted (timer_edits.judged part act done) ≡ true
+timers_accepted part act timer_done.Running = refl
+timers_accepted part act timer_done.Same = refl
+timers_accepted part act timer_done.Unarmed = refl
+timers_accepted part act timer_done.NotDue = refl
+timers_accepted part act done = refl
+
+-- an accepted leader leaves it to the others to refuse
+led_refused : {Part Other Done More : Type 0} (judged : Judged Part Done) (rule : Rule) → is_accepted judged ≡ true
+    → led_by {Other = Other} {More = More} judged (Refuses rule) ≡ Refuses rule
+led_refused (Refuses other) rule is = absurd (cc)
+led_refused (Quiets done) rule is = refl
+led_refused (Makes part done) rule is = refl
+
+-- a fault of the work is that of the outcome
+pub fault_of_work : (parts : Parts) (asks : Asks) (m : ℕ) (fault : PlanFault)
+    → work_faults.IsPlanOf parts.work (work.outcome parts.work asks.work m) (Err fault) → IsPlanOf parts (outcomes parts asks m) (Err fault)
 unfolding outcomes
-fault_of_all parts asks m of_queues of_blobs of_leases fault one two three is = by_fault fault is
-  where
-    inner : Plans (both (blobs.outcome parts.blobs asks.blobs m) (leases.outcome parts.leases asks.leases m))
-        (λ (c : blob_edits.Change × lease_edits.Change). both (blob_edits.planned parts.blobs c.0) (lease_edits.planned parts.leases c.1)) (both_planned of_blobs of_leases)
-    inner = both_plan _ _ (blob_edits.planned parts.blobs) (lease_edits.planned parts.leases) of_blobs of_leases
-        (λ c. blobs_accepted parts.blobs c.acts c.done) (λ c. refl) two three
+fault_of_work parts asks m (OfRule rule) is =
+    ap (λ judged. joined judged (timers.outcome parts.timers (asked_timers parts asks) m) (queues.outcome parts.queues (asked_queues parts asks) m) (blobs.outcome parts.blobs asks.blobs m) (leases.outcome parts.leases asks.leases m)) is
+fault_of_work parts asks m NoMemory is = tt
 
-    whole : Plans (both (queues.outcome parts.queues asks.queues m) (both (blobs.outcome parts.blobs asks.blobs m) (leases.outcome parts.leases asks.leases m)))
-        (λ (c : queue_edits.Change × (blob_edits.Change × lease_edits.Change)). both (queue_edits.planned parts.queues c.0) (both (blob_edits.planned parts.blobs c.1.0) (lease_edits.planned parts.leases c.1.1)))
-        (both_planned of_queues (both_planned of_blobs of_leases))
-    whole = both_plan _ _ (queue_edits.planned parts.queues)
-        (λ (c : blob_edits.Change × lease_edits.Change). both (blob_edits.planned parts.blobs c.0) (lease_edits.planned parts.leases c.1))
-        of_queues (both_planned of_blobs of_leases) (λ c. queues_accepted parts.queues c.acts c.done)
-        (λ c. accepted_both (blob_edits.planned parts.blobs c.0) (lease_edits.planned parts.leases c.1) (blobs_accepted parts.blobs c.0.acts c.0.done) refl)
-        one inner
+timers_plan : (part : TimerPart) (outcome : Judged TimerPart TimerDone) (result : Result timer_edits.Change PlanFault) → timer_edits.IsPlanOf part outcome result → Plans outcome (timer_edits.planned part) result
+timers_plan part outcome (Ok change) is = is
+timers_plan part outcome (Err fault) is = absurd is
 
-    by_fault : (f : PlanFault) → both_planned of_queues (both_planned of_blobs of_leases) ≡ Err f → IsPlanOf parts (outcomes parts asks m) (Err f)
-    by_fault (OfRule rule) is = ap of_all (subst (Plans _ _) is whole)
-    by_fault NoMemory is = tt
+-- where the work has a plan, so is a fault of a plan of the others
+module _ (parts : Parts) (asks : Asks) (m : ℕ) (of_work : work_edits.Change) (of_timers : Result timer_edits.Change PlanFault) (of_queues : Result queue_edits.Change PlanFault)
+    (of_blobs : Result blob_edits.Change PlanFault) (of_leases : Result lease_edits.Change PlanFault)
+    (led : work.outcome parts.work asks.work m ≡ work_edits.planned parts.work of_work)
+    (timed : timer_edits.IsPlanOf parts.timers (timers.outcome parts.timers (asked_timers parts asks) m) of_timers)
+    (queued : Plans (queues.outcome parts.queues (asked_queues parts asks) m) (queue_edits.planned parts.queues) of_queues)
+    (stored : Plans (blobs.outcome parts.blobs asks.blobs m) (blob_edits.planned parts.blobs) of_blobs)
+    (leased : Plans (leases.outcome parts.leases asks.leases m) (lease_edits.planned parts.leases) of_leases) where
+  abbrev planned_blobs : blob_edits.Change × lease_edits.Change → Judged (BlobPart × LeasePart) (BlobDone × LeaseDone)
+  planned_blobs c = both (blob_edits.planned parts.blobs c.0) (lease_edits.planned parts.leases c.1)
+
+  abbrev planned_queues : queue_edits.Change × (blob_edits.Change × lease_edits.Change) → Judged (QueuePart × (BlobPart × LeasePart)) (QueueDone × (BlobDone × LeaseDone))
+  planned_queues c = both (queue_edits.planned parts.queues c.0) (planned_blobs c.1)
+
+  blobs_fit : (c : blob_edits.Change × lease_edits.Change) → is_accepted (planned_blobs c) ≡ true
+  blobs_fit c = accepted_both (blob_edits.planned parts.blobs c.0) (lease_edits.planned parts.leases c.1) (blobs_accepted parts.blobs c.0.acts c.0.done) refl
+
+  inner : Plans (both (blobs.outcome parts.blobs asks.blobs m) (leases.outcome parts.leases asks.leases m)) planned_blobs (both_planned of_blobs of_leases)
+  inner = both_plan _ _ (blob_edits.planned parts.blobs) (lease_edits.planned parts.leases) of_blobs of_leases
+      (λ c. blobs_accepted parts.blobs c.acts c.done) (λ c. refl) stored leased
+
+  middle : Plans (both (queues.outcome parts.queues (asked_queues parts asks) m) (both (blobs.outcome parts.blobs asks.blobs m) (leases.outcome parts.leases asks.leases m)))
+      planned_queues (both_planned of_queues (both_planned of_blobs of_leases))
+  middle = both_plan _ _ (queue_edits.planned parts.queues) planned_blobs
+      of_queues (both_planned of_blobs of_leases) (λ c. queues_accepted parts.queues c.acts c.done) blobs_fit queued inner
+
+  whole : Plans (both (timers.outcome parts.timers (asked_timers parts asks) m) (both (queues.outcome parts.queues (asked_queues parts asks) m) (both (blobs.outcome parts.blobs asks.blobs m) (leases.outcome parts.leases asks.leases m))))
+      (λ (c : timer_edits.Change × (queue_edits.Change × (blob_edits.Change × lease_edits.Change))). both (timer_edits.planned parts.timers c.0) (planned_queues c.1))
+      (both_planned of_timers (both_planned of_queues (both_planned of_blobs of_leases)))
+  whole = both_plan _ _ (timer_edits.planned parts.timers) planned_queues
+      of_timers (both_planned of_queues (both_planned of_blobs of_leases)) (λ c. timers_accepted parts.timers c.act c.done)
+      (λ c. accepted_both (queue_edits.planned parts.queues c.0) (planned_blobs c.1) (queues_accepted parts.queues c.0.acts c.0.done) (blobs_fit c.1))
+      (timers_plan parts.timers (timers.outcome parts.timers (asked_timers parts asks) m) of_timers timed) middle
+
+  pub fault_of_all : (fault : PlanFault) → both_planned of_timers (both_planned of_queues (both_planned of_blobs of_leases)) ≡ Err fault → IsPlanOf parts (outcomes parts asks m) (Err fault)
+  unfolding outcomes
+  fault_of_all (OfRule rule) is =
+      ap of_all (ap (λ others. led_by (work.outcome parts.work asks.work m) others) (subst (Plans _ _) is whole)
+      ∙ ap (λ judged. led_by judged (Refuses rule)) led
+      ∙ led_refused (work_edits.planned parts.work of_work) rule (work_accepted parts.work of_work.acts of_work.done))
+  fault_of_all NoMemory is = tt
+
+  -- and plans of all are the plan of the outcome
+  pub plan_of_all : (c : timer_edits.Change × (queue_edits.Change × (blob_edits.Change × lease_edits.Change))) → both_planned of_timers (both_planned of_queues (both_planned of_blobs of_leases)) ≡ Ok c
+      → outcomes parts asks m ≡ joined (work_edits.planned parts.work of_work) (timer_edits.planned parts.timers c.0) (queue_edits.planned parts.queues c.1.0) (blob_edits.planned parts.blobs c.1.1.0) (lease_edits.planned parts.leases c.1.1.1)
+  unfolding outcomes
+  plan_of_all c is =
+      ap of_all (ap (λ others. led_by (work.outcome parts.work asks.work m) others) (subst (Plans _ _) is whole)
+      ∙ ap (λ judged. led_by judged (both (timer_edits.planned parts.timers c.0) (planned_queues c.1))) led)
 
 -- ---- changes
 
@@ -135,40 +200,58 @@ both_make {Part} {Other} {Done} {More} (Makes part answer) (Makes other more) ma
     let more_is : more ≡ done.1 = ap (λ (d : Done × More). d.1) answers in
     record { first = cc; second = cc }
 
+led_make : {Part Other Done More : Type 0} (judged : Judged Part Done) (others : Judged Other More) (made : Part × Other) (done : Done × More)
+    → led_by judged others ≡ Makes made done → MakesBoth judged others made done
+led_make (Refuses rule) others made done is = absurd (cc)
+led_make (Quiets answer) others made done is = both_make (Quiets answer) others made done is
+led_make (Makes part answer) others made done is = both_make (Makes part answer) others made done is
+
 -- what all stores made, as each made it
-pub record MakesAll (of_queues : Judged QueuePart QueueDone) (of_blobs : Judged BlobPart BlobDone) (of_leases : Judged LeasePart LeaseDone) (after : Parts) (done : Done) : Type 0 where
+pub record MakesAll (of_work : Judged WorkPart WorkDone) (of_timers : Judged TimerPart TimerDone) (of_queues : Judged QueuePart QueueDone) (of_blobs : Judged BlobPart BlobDone) (of_leases : Judged LeasePart LeaseDone) (after : Parts) (done : Done) : Type 0 where
+  pub work : of_work ≡ Makes after.work done.work
+  pub timers : of_timers ≡ Makes after.timers done.timers
   pub queues : of_queues ≡ Makes after.queues done.queues
   pub blobs : of_blobs ≡ Makes after.blobs done.blobs
   pub leases : of_leases ≡ Makes after.leases done.leases
 
-record IsOfAll (judged : Judged (QueuePart × (BlobPart × LeasePart)) (QueueDone × (BlobDone × LeaseDone))) (after : Parts) (done : Done) : Type 0 where
-  made : judged ≡ Makes (after.queues, (after.blobs, after.leases)) (done.queues, (done.blobs, done.leases))
+abbrev parts_in : Parts → AllParts
+parts_in p = (p.work, (p.timers, (p.queues, (p.blobs, p.leases))))
 
-of_all_makes : (judged : Judged (QueuePart × (BlobPart × LeasePart)) (QueueDone × (BlobDone × LeaseDone))) (after : Parts) (done : Done)
-    → of_all judged ≡ Makes after done → IsOfAll judged after done
+abbrev done_in : Done → AllDone
+done_in d = (d.work, (d.timers, (d.queues, (d.blobs, d.leases))))
+
+of_all_makes : (judged : Judged AllParts AllDone) (after : Parts) (done : Done) → of_all judged ≡ Makes after done → judged ≡ Makes (parts_in after) (done_in done)
 of_all_makes (Refuses rule) after done is = absurd (cc)
 of_all_makes (Quiets answer) after done is = absurd (cc)
 of_all_makes (Makes made answer) after done is =
     let parts : parts_with made ≡ after = cc in
     let answers : done_with answer ≡ done = cc in
-    let made_is : made ≡ (after.queues, (after.blobs, after.leases)) = ap (λ (p : Parts). (p.queues, (p.blobs, p.leases))) parts in
-    let answer_is : answer ≡ (done.queues, (done.blobs, done.leases)) = ap (λ (d : Done). (d.queues, (d.blobs, d.leases))) answers in
-    record { made = cc }
+    let made_is : made ≡ parts_in after = ap parts_in parts in
+    let answer_is : answer ≡ done_in done = ap done_in answers in
+    cc
 
-joined_make : (of_queues : Judged QueuePart QueueDone) (of_blobs : Judged BlobPart BlobDone) (of_leases : Judged LeasePart LeaseDone) (after : Parts) (done : Done)
-    → joined of_queues of_blobs of_leases ≡ Makes after done → MakesAll of_queues of_blobs of_leases after done
-joined_make of_queues of_blobs of_leases after done is =
-    let whole = of_all_makes (both of_queues (both of_blobs of_leases)) after done is in
-    let outer = both_make of_queues (both of_blobs of_leases) (after.queues, (after.blobs, after.leases)) (done.queues, (done.blobs, done.leases)) whole.made in
-    let inner = both_make of_blobs of_leases (after.blobs, after.leases) (done.blobs, done.leases) outer.second in
-    record { queues = outer.first; blobs = inner.first; leases = inner.second }
+joined_make : (of_work : Judged WorkPart WorkDone) (of_timers : Judged TimerPart TimerDone) (of_queues : Judged QueuePart QueueDone) (of_blobs : Judged BlobPart BlobDone) (of_leases : Judged LeasePart LeaseDone) (after : Parts) (done : Done)
+    → joined of_work of_timers of_queues of_blobs of_leases ≡ Makes after done → MakesAll of_work of_timers of_queues of_blobs of_leases after done
+joined_make of_work of_timers of_queues of_blobs of_leases after done is =
+    let whole = of_all_makes (led_by of_work (both of_timers (both of_queues (both of_blobs of_leases)))) after done is in
+    let led = led_make of_work (both of_timers (both of_queues (both of_blobs of_leases))) (parts_in after) (done_in done) whole in
+    let timed = both_make of_timers (both of_queues (both of_blobs of_leases)) (parts_in after).1 (done_in done).1 led.second in
+    let queued = both_make of_queues (both of_blobs of_leases) (parts_in after).1.1 (done_in done).1.1 timed.second in
+    let stored = both_make of_blobs of_leases (parts_in after).1.1.1 (done_in done).1.1.1 queued.second in
+    record { work = led.first; timers = timed.first; queues = queued.first; blobs = stored.first; leases = stored.second }
 
-pub all_make : (parts : Parts) (asks : Asks) (m : ℕ) (after : Parts) (done : Done) → outcomes parts asks m ≡ Makes after done
-    → MakesAll (queues.outcome parts.queues asks.queues m) (blobs.outcome parts.blobs asks.blobs m) (leases.outcome parts.leases asks.leases m) after done
+-- what all stores made of a command's asks
+abbrev pub MadeOf : Parts → Asks → ℕ → Parts → Done → Type 0
+MadeOf parts asks m after done =
+    MakesAll (work.outcome parts.work asks.work m) (timers.outcome parts.timers (asked_timers parts asks) m) (queues.outcome parts.queues (asked_queues parts asks) m)
+    (blobs.outcome parts.blobs asks.blobs m) (leases.outcome parts.leases asks.leases m) after done
+
+pub all_make : (parts : Parts) (asks : Asks) (m : ℕ) (after : Parts) (done : Done) → outcomes parts asks m ≡ Makes after done → MadeOf parts asks m after done
 unfolding outcomes
 all_make parts asks m after done is =
-    joined_make (queues.outcome parts.queues asks.queues m) (blobs.outcome parts.blobs asks.blobs m) (leases.outcome parts.leases asks.leases m) after done is
+    joined_make (work.outcome parts.work asks.work m) (timers.outcome parts.timers (asked_timers parts asks) m)
+    (queues.outcome parts.queues (asked_queues parts asks) m) (blobs.outcome parts.blobs asks.blobs m) (leases.outcome parts.leases asks.leases m) after done is
 
 pub is_outcome_of_queues : (parts after : Parts) (done : Done) → IsOutcome parts after done → queue_edits.IsOutcome parts.queues (after.queues, done.queues)
 is_outcome_of_queues parts after done is =
-    record { ask = is.asks.queues; moment = is.moment; is = (all_make parts is.asks is.moment after done is.is).queues }
+    record { ask = asked_queues parts is.asks; moment = is.moment; is = (all_make parts is.asks is.moment after done is.is).queues }

@@ -16,7 +16,6 @@ use Rattle.fh_hub.specs.World.{World, empty, Stepped, Refused, Read, Quieted, Re
 use Rattle.fh_hub.specs.Replay.{Entry, Event, event_of, trace_from, trace, after, replay_from, replay, IsLegalFrom, IsLegal}
 use Rattle.fh_hub.specs.Laws.{births}
 use Rattle.fh_hub.specs.Guards.{RisesOver, HasOwnMoment}
-use Rattle.fh_hub.specs.Asked.{queue_ask}
 use Rattle.fh_hub.proofs.Steps.{Made, IsKept, event, kept_from}
 use Rattle.fh_hub.proofs.Told.{Told, IsSeenBy, told_kept, told, born_stays}
 use Rattle.fh_hub.proofs.Guarding.{stands_seen}
@@ -42,8 +41,8 @@ gone_stays : (n : ℕ) (before : Message) (events : List Event) (w : World) (com
     → HasRisen n before events w → Made w command now new reply → row_of n new.parts.queues.rows ≡ Some later → row_of n w.parts.queues.rows ≡ None → ⊥
 gone_stays n before events w command now new reply later h made found none = by_end (end_of n w.parts.queues.ends) refl
   where
-    goes : goes_on (effective_moment w now) (queue_ask command) made.done.queues n (seen n w.parts.queues) ≡ Stands later
-    goes = sym (goes_as_answered w.parts.queues (queue_ask command) (effective_moment w now) new.parts.queues made.done.queues h.told.whole made.queues n) ∙ stands_seen n new.parts.queues later found
+    goes : goes_on (effective_moment w now) made.ask made.done.queues n (seen n w.parts.queues) ≡ Stands later
+    goes = sym (goes_as_answered w.parts.queues made.ask (effective_moment w now) new.parts.queues made.done.queues h.told.whole made.queues n) ∙ stands_seen n new.parts.queues later found
 
     by_end : (end : Option Ending) → end_of n w.parts.queues.ends ≡ end → ⊥
     by_end None is =
@@ -52,7 +51,7 @@ gone_stays n before events w command now new reply later h made found none = by_
         omega (arith, h.born, never.0)
     by_end (Some ending) is =
         let gone : seen n w.parts.queues ≡ Ended ending = ap (λ r. seen_by r (end_of n w.parts.queues.ends)) none ∙ ap (seen_by None) is in
-        let stays : Ended ending ≡ Stands later = sym (ap (goes_on (effective_moment w now) (queue_ask command) made.done.queues n) gone) ∙ goes in
+        let stays : Ended ending ≡ Stands later = sym (ap (goes_on (effective_moment w now) made.ask made.done.queues n) gone) ∙ goes in
         cc
 
 risen_kept : (n : ℕ) (before : Message) → IsKept (HasRisen n before)
@@ -66,7 +65,7 @@ risen_kept n before events w command now new reply h made = record {
     by_row later found None none = absurd (gone_stays n before events w command now new reply later h made found none)
     by_row later found (Some mid) was =
         rises_on before mid later (h.rises mid was)
-        (raises_receipts w.parts.queues (queue_ask command) (effective_moment w now) new.parts.queues made.done.queues h.told.whole made.queues n mid later (stands_seen n w.parts.queues mid was) (stands_seen n new.parts.queues later found))
+        (raises_receipts w.parts.queues made.ask (effective_moment w now) new.parts.queues made.done.queues h.told.whole made.queues n mid later (stands_seen n w.parts.queues mid was) (stands_seen n new.parts.queues later found))
 
 pub rises_over : (history entries : List Entry) → RisesOver history entries
 rises_over history entries n before later was found =

@@ -1,38 +1,192 @@
 -- A recorded step, taken apart, and what holds of all histories because each recorded step keeps it.
-use Rattle.std.proofs.Common.{◌≡◌, ℕ, Bool, true, false, List, [], ◌∷◌, ◌++◌, Option, Some, None, Ok, length, refl, sym, ◌∙◌, ap, subst, append_assoc, append-nil}
-use Rattle.std.specs.Prelude.{nat_le, if◌then◌else◌, Result, Err}
+use Rattle.std.proofs.Common.{◌≡◌, ◌⊎◌, inl, inr, ℕ, ◌≤◌, arith, Bool, true, false, List, [], ◌∷◌, ◌++◌, Option, Some, None, Ok, length, refl, sym, ◌∙◌, ap, subst, append_assoc, append-nil}
+use Rattle.std.specs.Prelude.{nat_le, if◌then◌else◌, Result, Err, unwrap_or}
+use Rattle.std.proofs.lemmas.Bool.Decides.{nat_tests}
 use Rattle.fh_base.specs.Moments.{greatest_moment}
 use Rattle.fh_base.specs.declared.rule.Rule.{Rule}
 use Rattle.fh_base.specs.declared.rule.Rule.TheVariants.{MomentTooLate, BadName}
 use Rattle.fh_event.specs.declared.command.Command.{Command}
-use Rattle.fh_event.specs.declared.command.Command.TheVariants.{Note, Configure, Peek, GetBlob, Locate, Unnoted}
+use Rattle.fh_event.specs.declared.command.Command.TheVariants.{Note, Configure, Arm, Tick, Peek, GetBlob, Locate, Unnoted}
 use Rattle.fh_event.specs.declared.reply.Item.{Item}
 use Rattle.fh_event.specs.declared.reply.Reply.{Reply}
-use Rattle.fh_event.specs.Entries.{entry}
+use Rattle.fh_event.specs.declared.reply.Reply.TheVariants as replies
+use Rattle.fh_event.specs.Entries.{entry, GivesGoodMasks}
 use Rattle.fh_event.specs.Judging.{Judged}
 use Rattle.fh_event.specs.Judging as judging
+use Rattle.fh_queues.specs.Asks as queue_asks
 use Rattle.fh_queues.specs.Outcome as queues
 use Rattle.fh_queues.specs.Outcome.{peeked}
 use Rattle.fh_blobs.specs.declared.blob.BlobRow.{BlobRow}
-use Rattle.fh_blobs.specs.Part.{blob_of}
+use Rattle.fh_blobs.specs.Part.{blob_of, unnoted}
 use Rattle.fh_blobs.specs.Outcome as blobs
 use Rattle.fh_leases.specs.Outcome as leases
-use Rattle.fh_hub.specs.Stores.{Parts, Asks, Done, outcomes, too_full}
+use Rattle.fh_timers.specs.declared.ask.TimerAsk.{TimerAsk}
+use Rattle.fh_timers.specs.declared.ask.TimerAsk.TheVariants as timer_asks
+use Rattle.fh_timers.specs.declared.done.TimerDone.{TimerDone}
+use Rattle.fh_timers.specs.declared.done.TimerDone.TheVariants as timer_done
+use Rattle.fh_timers.specs.declared.done.TimerRun.{TimerRun}
+use Rattle.fh_timers.specs.Laws as timer_laws
+use Rattle.fh_timers.specs.Outcome as timers
+use Rattle.fh_timers.specs.Part.{TimerPart}
+use Rattle.fh_timers.specs.Runs.{run_of}
+use Rattle.fh_timers.proofs.Lawful.{answers_the_ask as timers_answer}
+use Rattle.fh_dispatch.specs.declared.timer.Timer.{Timer}
+use Rattle.fh_dispatch.specs.Asks as work_asks
+use Rattle.fh_dispatch.specs.Laws as work_laws
+use Rattle.fh_dispatch.specs.Timers.{timer_of}
+use Rattle.fh_dispatch.specs.Part.{function_of}
+use Rattle.fh_dispatch.specs.Outcome as work
+use Rattle.fh_dispatch.proofs.Lawful.{asks_only_to_make, asks_only_to_remove}
+use Rattle.fh_hub.specs.Stores.{Parts, Asks, Done, function_asked, run_made, ready_by, asked_timers, asked_queues, outcomes, too_full}
 use Rattle.fh_hub.specs.Names.{has_good_names}
-use Rattle.fh_hub.specs.Asked.{Asked, Refuses, Reads, AsksAll, queue_ask, blob_ask, lease_ask, asks_of_command, reads_items, reads_blob, asked_of, unless_misnamed, asked}
+use Rattle.fh_hub.specs.Asked.{Asked, Refuses, Reads, AsksAll, number_in, queue_ask_in, blob_ask_in, lease_ask, timer_ask_in, work_ask, asks_in, reads_items, reads_blob, works_on_blobs, unless_strange, unless_missing, unless_untimed, asked_of, unless_misnamed, asked}
 use Rattle.fh_hub.specs.Replies.{reply_of}
 use Rattle.fh_hub.specs.World.{World, empty, Stepped, Refused, Read, Quieted, Recorded, full_rule, world_with, recorded, unless_full, judged, stepped_by, step, step_at, effective_moment}
 use Rattle.fh_hub.specs.Replay.{Entry, Event, world_after, after, replay_from, replay, event_of, trace_from, trace}
 use Rattle.fh_hub.proofs.Outcomes.{all_make}
 
+abbrev pub is_configure : Command → Bool
+is_configure (Configure function settings) = true
+is_configure command = false
+
+abbrev pub is_timed : Command → Bool
+is_timed (Arm function) = true
+is_timed (Tick function) = true
+is_timed command = false
+
+-- the queues are asked for what the command asks, or for the queue of a function that it configures
+abbrev pub IsAskedOf : Parts → Command → queue_asks.Ask → Type 0
+IsAskedOf parts command ask =
+    (ask ≡ queue_ask_in parts command) ⊎ ((queue : List ℕ) × (ask ≡ queue_asks.Make queue) × (is_configure command ≡ true))
+
+-- what a command asks of all stores at this moment
+abbrev pub asks_at : World → Command → ℕ → Asks
+asks_at w command now = asks_in w.parts command (effective_moment w now)
+
 -- what the stores did in a recorded step
 pub record Made (w : World) (command : Command) (now : ℕ) (new : World) (reply : Reply) : Type 0 where
   pub done : Done
-  pub queues : queues.outcome w.parts.queues (queue_ask command) (effective_moment w now) ≡ judging.Makes new.parts.queues done.queues
-  pub blobs : blobs.outcome w.parts.blobs (blob_ask command) (effective_moment w now) ≡ judging.Makes new.parts.blobs done.blobs
+  pub ask : queue_asks.Ask
+  pub asked : IsAskedOf w.parts command ask
+  pub queues : queues.outcome w.parts.queues ask (effective_moment w now) ≡ judging.Makes new.parts.queues done.queues
+  pub blobs : blobs.outcome w.parts.blobs (blob_ask_in w.parts command) (effective_moment w now) ≡ judging.Makes new.parts.blobs done.blobs
   pub leases : leases.outcome w.parts.leases (lease_ask command) (effective_moment w now) ≡ judging.Makes new.parts.leases done.leases
+  pub timers : timers.outcome w.parts.timers (asked_timers w.parts (asks_at w command now)) (effective_moment w now) ≡ judging.Makes new.parts.timers done.timers
+  pub work : work.outcome w.parts.work (asks_at w command now).work (effective_moment w now) ≡ judging.Makes new.parts.work done.work
   pub replies : reply ≡ reply_of done
   pub last : new.last ≡ effective_moment w now
+  pub timely : now ≤ greatest_moment
+
+pub sweeps : (parts : Parts) (command : Command) → is_configure command ≡ true → queue_ask_in parts command ≡ queue_asks.Sweep
+sweeps parts (Configure function settings) is = refl
+sweeps parts command is = absurd (cc)
+
+-- what is told of a sweep and of a queue that is made is told of what the queues were asked for
+pub as_asked : {A : Type 0} (parts : Parts) (command : Command) (ask : queue_asks.Ask) (of_ask : queue_asks.Ask → A) → IsAskedOf parts command ask
+    → ((queue : List ℕ) → of_ask queue_asks.Sweep ≡ of_ask (queue_asks.Make queue)) → of_ask (queue_ask_in parts command) ≡ of_ask ask
+as_asked parts command ask of_ask (inl is) same = ap of_ask (sym is)
+as_asked parts command ask of_ask (inr one) same = ap of_ask (sweeps parts command one.2) ∙ same one.0 ∙ ap of_ask (sym one.1)
+
+differ : {b : Bool} → b ≡ true → b ≡ false → ⊥
+differ holds fails = cc
+
+-- a command that configures no function asks what it says
+pub asked_plainly : (parts : Parts) (command : Command) (ask : queue_asks.Ask) → is_configure command ≡ false → IsAskedOf parts command ask → ask ≡ queue_ask_in parts command
+asked_plainly parts command ask plain (inl is) = is
+asked_plainly parts command ask plain (inr one) = absurd (differ one.2 plain)
+
+-- timers that are asked for nothing make no run
+pub no_run : (part : TimerPart) (m : ℕ) → run_made (timers.outcome part timer_asks.Nothing m) ≡ None
+no_run part m = by_judged (timers.outcome part timer_asks.Nothing m) refl
+  where
+    by_answer : (answer : TimerDone) → timer_laws.answers timer_asks.Nothing answer ≡ true → run_of answer ≡ None
+    by_answer timer_done.Nothing is = refl
+    by_answer answer is = absurd (cc)
+
+    by_judged : (found : Judged TimerPart TimerDone) → timers.outcome part timer_asks.Nothing m ≡ found → run_made found ≡ None
+    by_judged (judging.Refuses rule) is = refl
+    by_judged (judging.Quiets answer) is = refl
+    by_judged (judging.Makes after answer) is = by_answer answer (timers_answer part timer_asks.Nothing m after answer is)
+
+-- a command that is about no timer asks of the work what it says
+pub work_asked : (parts : Parts) (command : Command) (m : ℕ) → is_timed command ≡ false → (asks_in parts command m).work ≡ work_ask command
+work_asked parts (Arm function) m plain = absurd (cc)
+work_asked parts (Tick function) m plain = absurd (cc)
+work_asked parts command m plain = refl
+
+-- and one about a timer asks of it at most that a run is made ready
+pub work_timed : (parts : Parts) (command : Command) (m : ℕ) → is_timed command ≡ true
+    → (asks_in parts command m).work ≡ ready_by (function_asked (timer_ask_in parts command)) (run_made (timers.outcome parts.timers (timer_ask_in parts command) m))
+work_timed parts (Arm function) m timed = refl
+work_timed parts (Tick function) m timed = refl
+work_timed parts command m timed = absurd (cc)
+
+queues_asked : (parts : Parts) (command : Command) (m : ℕ) → (asks_in parts command m).queues ≡ queue_ask_in parts command
+queues_asked parts (Arm function) m = refl
+queues_asked parts (Tick function) m = refl
+queues_asked parts command m = refl
+
+blobs_asked : (parts : Parts) (command : Command) (m : ℕ) → (asks_in parts command m).blobs ≡ blob_ask_in parts command
+blobs_asked parts (Arm function) m = refl
+blobs_asked parts (Tick function) m = refl
+blobs_asked parts command m = refl
+
+leases_asked : (parts : Parts) (command : Command) (m : ℕ) → (asks_in parts command m).leases ≡ lease_ask command
+leases_asked parts (Arm function) m = refl
+leases_asked parts (Tick function) m = refl
+leases_asked parts command m = refl
+
+own_timers_asked : (parts : Parts) (command : Command) (m : ℕ) → (asks_in parts command m).timers ≡ timer_ask_in parts command
+own_timers_asked parts (Arm function) m = refl
+own_timers_asked parts (Tick function) m = refl
+own_timers_asked parts command m = refl
+
+configures : (command : Command) → work_laws.is_configure (work_ask command) ≡ is_configure command
+configures (Configure function settings) = refl
+configures command = refl
+
+configures_nothing : (function : ℕ) (run : Option TimerRun) → work_laws.is_configure (ready_by function run) ≡ true → ⊥
+configures_nothing function None is = cc
+configures_nothing function (Some run) is = cc
+
+-- what configures by what it asks of the work configures
+configures_by : (parts : Parts) (command : Command) (m : ℕ) → work_laws.is_configure (asks_in parts command m).work ≡ true → is_configure command ≡ true
+configures_by parts command m is = by_kind (is_timed command) refl
+  where
+    by_kind : (timed : Bool) → is_timed command ≡ timed → is_configure command ≡ true
+    by_kind false plain = sym (configures command) ∙ ap work_laws.is_configure (sym (work_asked parts command m plain)) ∙ is
+    by_kind true timed = absurd (configures_nothing _ _ (ap work_laws.is_configure (sym (work_timed parts command m timed)) ∙ is))
+
+asked_of_queues : (parts : Parts) (command : Command) (m : ℕ) → IsAskedOf parts command (asked_queues parts (asks_in parts command m))
+asked_of_queues parts command m =
+    elim (asks_only_to_make parts.work parts.queues (asks_in parts command m).work) [
+      | inl none ↦ inl (ap (λ ask. unwrap_or ask (asks_in parts command m).queues) none ∙ queues_asked parts command m)
+      | inr one ↦ inr (one.0, ap (λ ask. unwrap_or ask (asks_in parts command m).queues) one.1, configures_by parts command m one.2)
+    ]
+
+pub timer_ask_plain : (parts : Parts) (command : Command) → is_timed command ≡ false → timer_ask_in parts command ≡ timer_asks.Nothing
+timer_ask_plain parts (Arm function) plain = absurd (cc)
+timer_ask_plain parts (Tick function) plain = absurd (cc)
+timer_ask_plain parts command plain = refl
+
+-- the timers are asked for what the command asks, or to remove the row of a function that it configures
+abbrev pub IsTimerAskOf : Parts → Command → TimerAsk → Type 0
+IsTimerAskOf parts command ask =
+    (ask ≡ timer_ask_in parts command) ⊎ ((function : ℕ) × (ask ≡ timer_asks.Remove function) × (is_configure command ≡ true))
+
+pub asked_of_timers : (parts : Parts) (command : Command) (m : ℕ) → IsTimerAskOf parts command (asked_timers parts (asks_in parts command m))
+asked_of_timers parts command m =
+    elim (asks_only_to_remove parts.work (asks_in parts command m).work) [
+      | inl none ↦ inl (ap (λ ask. unwrap_or ask (asks_in parts command m).timers) none ∙ own_timers_asked parts command m)
+      | inr one ↦ inr (one.0, ap (λ ask. unwrap_or ask (asks_in parts command m).timers) one.1, configures_by parts command m one.2)
+    ]
+
+pub timers_asked_plainly : (parts : Parts) (command : Command) (m : ℕ) → is_configure command ≡ false → asked_timers parts (asks_in parts command m) ≡ timer_ask_in parts command
+timers_asked_plainly parts command m plain =
+    elim (asked_of_timers parts command m) [
+      | inl is ↦ is
+      | inr one ↦ absurd (differ one.2 plain)
+    ]
 
 named : (command : Command) (given : Asked) (all : Asks) → unless_misnamed command given ≡ AsksAll all → given ≡ AsksAll all
 named command given all is = by_test (has_good_names command) is
@@ -53,21 +207,49 @@ gets_nothing (Some row) all is = cc
 same_asks : (all given : Asks) → AsksAll given ≡ AsksAll all → all ≡ given
 same_asks all given is = let same : given ≡ all = cc in sym same
 
-asked_of_command : (parts : Parts) (command : Command) (m : ℕ) (all : Asks) → asked_of parts command m ≡ AsksAll all → all ≡ asks_of_command command
+strange_asks_nothing : (known : Bool) (given : Asked) (all : Asks) → unless_strange known given ≡ AsksAll all → given ≡ AsksAll all
+strange_asks_nothing true given all is = is
+strange_asks_nothing false given all is = absurd (cc)
+
+missing_asks_nothing : (found : Option BlobRow) (given : Asked) (all : Asks) → unless_missing found given ≡ AsksAll all → given ≡ AsksAll all
+missing_asks_nothing None given all is = absurd (cc)
+missing_asks_nothing (Some row) given all is = is
+
+untimed_asks_nothing : (found : Option Timer) (given : Asked) (all : Asks) → unless_untimed found given ≡ AsksAll all → given ≡ AsksAll all
+untimed_asks_nothing None given all is = absurd (cc)
+untimed_asks_nothing (Some timer) given all is = is
+
+asked_of_command : (parts : Parts) (command : Command) (m : ℕ) (all : Asks) → asked_of parts command m ≡ AsksAll all → all ≡ asks_in parts command m
 asked_of_command parts (Peek queue count) m all is = absurd (peeks_nothing (peeked parts.queues queue count m) all is)
 asked_of_command parts (GetBlob container blob) m all is = absurd (gets_nothing (blob_of container blob parts.blobs.blobs) all is)
 asked_of_command parts (Locate number) m all is = absurd (cc)
-asked_of_command parts (Note function container blob) m all is = absurd (cc)
-asked_of_command parts (Configure function settings) m all is = absurd (cc)
-asked_of_command parts (Unnoted function container) m all is = absurd (cc)
-asked_of_command parts command m all is = same_asks all (asks_of_command command) is
+asked_of_command parts (Note function container blob) m all is =
+    same_asks all (asks_in parts (Note function container blob) m)
+    (missing_asks_nothing (blob_of container blob parts.blobs.blobs) _ all
+    (strange_asks_nothing (works_on_blobs (function_of function parts.work.functions)) _ all is))
+asked_of_command parts (Unnoted function container) m all is =
+    absurd (reads_nothing (strange_asks_nothing (works_on_blobs (function_of function parts.work.functions)) _ all is))
+  where
+    reads_nothing : Reads (replies.Unnoted (unnoted parts.blobs (number_in parts.work function) container)) ≡ AsksAll all → ⊥
+    reads_nothing is = cc
+asked_of_command parts (Arm function) m all is =
+    same_asks all (asks_in parts (Arm function) m) (untimed_asks_nothing (timer_of function parts.work.functions) _ all is)
+asked_of_command parts (Tick function) m all is =
+    same_asks all (asks_in parts (Tick function) m) (untimed_asks_nothing (timer_of function parts.work.functions) _ all is)
+asked_of_command parts command m all is = same_asks all (asks_in parts command m) is
 
 -- what is asked is what the command says
-pub asks_as_told : (parts : Parts) (command : Command) (m : ℕ) (all : Asks) → asked parts command m ≡ AsksAll all → all ≡ asks_of_command command
+pub asks_as_told : (parts : Parts) (command : Command) (m : ℕ) (all : Asks) → asked parts command m ≡ AsksAll all → all ≡ asks_in parts command m
 unfolding asked
 asks_as_told parts command m all is = asked_of_command parts command m all (named command (asked_of parts command m) all is)
 
-module _ (w : World) (command : Command) (now : ℕ) (new : World) (reply : Reply) where
+-- what is accepted has good masks
+pub masks_by_asks : (parts : Parts) (command : Command) (m : ℕ) (all : Asks) → asked parts command m ≡ AsksAll all → work_asks.GivesGoodMasks all.work → GivesGoodMasks command
+masks_by_asks parts (Configure function settings) m all is good =
+    subst (λ (a : Asks). work_asks.GivesGoodMasks a.work) (asks_as_told parts (Configure function settings) m all is) good
+masks_by_asks parts command m all is good = tt
+
+module _ (w : World) (command : Command) (now : ℕ) (new : World) (reply : Reply) (in_time : nat_le now greatest_moment ≡ true) where
   abbrev m : ℕ
   m = effective_moment w now
 
@@ -75,7 +257,7 @@ module _ (w : World) (command : Command) (now : ℕ) (new : World) (reply : Repl
   from_room None stepped is = is
   from_room (Some rule) stepped is = absurd (cc)
 
-  from_judged : (size : ℕ) (full : Option Rule) (all : Asks) (found : Judged Parts Done) → all ≡ asks_of_command command → outcomes w.parts all m ≡ found → judged w m size full found ≡ Recorded new reply → Made w command now new reply
+  from_judged : (size : ℕ) (full : Option Rule) (all : Asks) (found : Judged Parts Done) → all ≡ asks_in w.parts command m → outcomes w.parts all m ≡ found → judged w m size full found ≡ Recorded new reply → Made w command now new reply
   from_judged size full all (judging.Refuses rule) asking makes is = absurd (cc)
   from_judged size full all (judging.Quiets answer) asking makes is = absurd (cc)
   from_judged size full all (judging.Makes parts answer) asking makes is =
@@ -83,12 +265,17 @@ module _ (w : World) (command : Command) (now : ℕ) (new : World) (reply : Repl
       let new_is : world_with w parts m size ≡ new = cc in
       let reply_is : reply_of answer ≡ reply = cc in
       let told = ap (λ (a : Asks). outcomes w.parts a m) (sym asking) ∙ makes ∙ ap (λ (x : World). judging.Makes x.parts answer) new_is in
-      let did = all_make w.parts (asks_of_command command) m new.parts answer told in
+      let did = all_make w.parts (asks_in w.parts command m) m new.parts answer told in
       record {
         done = answer;
+        ask = asked_queues w.parts (asks_at w command now);
+        asked = asked_of_queues w.parts command m;
         queues = did.queues;
-        blobs = did.blobs;
-        leases = did.leases;
+        blobs = ap (λ a. blobs.outcome w.parts.blobs a m) (sym (blobs_asked w.parts command m)) ∙ did.blobs;
+        leases = ap (λ a. leases.outcome w.parts.leases a m) (sym (leases_asked w.parts command m)) ∙ did.leases;
+        timers = did.timers;
+        work = did.work;
+        timely = grind (arith, nat_tests, in_time);
         replies = sym reply_is;
         last = sym (ap (λ (x : World). x.last) new_is);
       }
@@ -99,14 +286,14 @@ module _ (w : World) (command : Command) (now : ℕ) (new : World) (reply : Repl
   from_stepped_by size (AsksAll all) asking is =
       from_judged size (too_full w.parts all m) all (outcomes w.parts all m) (asks_as_told w.parts command m all asking) refl is
 
-  from_timed : (timely : Bool) → (if timely then step_at w command m else Refused MomentTooLate) ≡ Recorded new reply → Made w command now new reply
-  unfolding step_at
-  from_timed true is = from_stepped_by (length (entry m command)) (asked w.parts command m) refl is
-  from_timed false is = absurd (cc)
-
-  pub made : step w command now ≡ Recorded new reply → Made w command now new reply
-  unfolding step
-  made is = from_timed (nat_le now greatest_moment) is
+-- what the stores did in a step that is recorded
+pub made : (w : World) (command : Command) (now : ℕ) (new : World) (reply : Reply) → step w command now ≡ Recorded new reply → Made w command now new reply
+unfolding step step_at
+made w command now new reply is = by_test (nat_le now greatest_moment) refl is
+  where
+    by_test : (timely : Bool) → nat_le now greatest_moment ≡ timely → (if timely then step_at w command (effective_moment w now) else Refused MomentTooLate) ≡ Recorded new reply → Made w command now new reply
+    by_test true in_time is = from_stepped_by w command now new reply in_time (length (entry (effective_moment w now) command)) (asked w.parts command (effective_moment w now)) refl is
+    by_test false late is = absurd (cc)
 
 -- the event of a recorded step
 abbrev pub event : World → Command → ℕ → Reply → World → Event

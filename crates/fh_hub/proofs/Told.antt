@@ -6,21 +6,21 @@ use Rattle.std.proofs.lemmas.Bool.Decides.{nat_tests}
 use Rattle.std.proofs.lemmas.List.Sums.{fold_push, sum_by_push}
 use Rattle.std.proofs.lemmas.List.Recursion.{or_push}
 use Rattle.fh_event.specs.declared.command.Command.{Command}
-use Rattle.fh_event.specs.declared.command.Command.TheVariants.{Put, Take, Update, Delete, Clear}
+use Rattle.fh_event.specs.declared.command.Command.TheVariants.{Put, Take, Update, Delete, Clear, Note}
 use Rattle.fh_event.specs.declared.reply.Reply.{Reply}
 use Rattle.fh_queues.specs.declared.row.Message.{Message}
 use Rattle.fh_queues.specs.declared.done.QueueDone.{QueueDone}
 use Rattle.fh_queues.specs.declared.done.QueueDone.TheVariants as done
-use Rattle.fh_blobs.specs.declared.done.BlobDone.{BlobDone}
-use Rattle.fh_blobs.specs.declared.done.BlobDone.TheVariants as blobs
-use Rattle.fh_leases.specs.declared.done.LeaseDone.{LeaseDone}
-use Rattle.fh_leases.specs.declared.done.LeaseDone.TheVariants as leases
 use Rattle.fh_queues.specs.declared.done.Ending.{Ending}
 use Rattle.fh_queues.specs.declared.done.Ending.TheVariants.{Deleted, Completed, Moved, Expired}
+use Rattle.fh_queues.specs.declared.row.About.{About}
 use Rattle.fh_queues.specs.Asks.{Ask}
+use Rattle.fh_queues.specs.Asks as queue_asks
+use Rattle.fh_queues.specs.Acts.{numbered}
+use Rattle.fh_queues.specs.Laws as queue_laws
 use Rattle.fh_queues.specs.Rows.{is_before, is_live, row_of}
 use Rattle.fh_queues.specs.Part.{QueuePart, no_queues, end_of}
-use Rattle.fh_queues.specs.Outcome.{after}
+use Rattle.fh_queues.specs.Outcome.{after, new_message}
 use Rattle.fh_queues.specs.Seen.{Seen, Unborn, Stands, Ended, seen_by, seen}
 use Rattle.fh_queues.specs.Whole.{IsWhole}
 use Rattle.fh_queues.specs.Receipts.{born, given}
@@ -28,14 +28,14 @@ use Rattle.fh_queues.specs.Goings.{answered, deletes, newly, goes_on}
 use Rattle.fh_queues.specs.Tellings.{items_in, lists, own_hold, newer, hold_given, queue_given, expiry_given, removes, IsNew, TellsOfMessages}
 use Rattle.fh_queues.proofs.Lawful.{Whole-none, Whole-outcome, row_seen, goes_as_answered, gives_numbers, gives_receipts, moves_little, tells}
 use Rattle.fh_hub.specs.World.{World, empty, effective_moment}
-use Rattle.fh_hub.specs.Asked.{queue_ask}
-use Rattle.fh_hub.specs.Stores.{Done}
-use Rattle.fh_hub.specs.Replies.{reply_of_leases, reply_of_blobs, reply_of_queues, reply_of_others, reply_of}
+use Rattle.fh_hub.specs.Asked.{queue_ask_in}
+use Rattle.fh_hub.specs.Stores.{Parts}
 use Rattle.fh_hub.specs.Replay.{Entry, Event, trace, replay}
-use Rattle.fh_hub.specs.Signs.{signs_of, signs, items_of, gives, bears}
+use Rattle.fh_hub.specs.Signs.{signs_of, signs, items_of, has_receipt, gives, bears}
 use Rattle.fh_hub.specs.Laws.{births, receipts}
 use Rattle.fh_hub.specs.Places.{birth_of, expiry_by, queue_by, expiry_of, queue_of, last_hold, was_removed}
-use Rattle.fh_hub.proofs.Steps.{Made, IsKept, event, kept_by_all}
+use Rattle.fh_hub.proofs.Steps.{Made, as_asked, IsKept, event, kept_by_all}
+use Rattle.fh_hub.proofs.Answering.{HasOwnReceipt, Tells, queues_answered, reply_tells}
 use Rattle.fh_hub.proofs.Births.{birth_now, birth_then}
 
 -- once for each number from 1 on and below the next one
@@ -71,78 +71,28 @@ pub record Told (events : List Event) (w : World) : Type 0 where
   pub receipts : (k : ℕ) → receipts k events ≡ once_below w.parts.queues.next_receipt k
   pub seen : (n : ℕ) → IsSeenBy n events w.last (seen n w.parts.queues)
 
--- a reply that says nothing of messages
-pub record IsApart (reply : Reply) : Type 0 where
-  pub births : (n : ℕ) → bears n reply ≡ false
-  pub receipts : (k : ℕ) → gives k reply ≡ 0
-  pub items : items_of reply ≡ []
+hold_as_told : (parts : Parts) (n m : ℕ) (command : Command) (reply : Reply) (answer : QueueDone) → items_of reply ≡ items_in answer → (signs_of parts m command reply).hold n ≡ hold_given n m (queue_ask_in parts command) answer
+hold_as_told parts n m (Put queue delay ttl text) reply answer items = refl
+hold_as_told parts n m (Take queue count hold) reply answer items = ap (λ among. if lists n among then Some (after m hold) else None) items
+hold_as_told parts n m (Update queue number receipt hold text) reply answer items = refl
+hold_as_told parts n m (Delete queue number receipt) reply answer items = refl
+hold_as_told parts n m (Clear queue) reply answer items = refl
+hold_as_told parts n m command reply answer items = refl
 
-apart : (reply : Reply) → ((n : ℕ) → bears n reply ≡ false) → ((k : ℕ) → gives k reply ≡ 0) → items_of reply ≡ [] → IsApart reply
-apart reply births receipts items = record { births = births; receipts = receipts; items = items }
-
-leases_apart : (answer : LeaseDone) → IsApart (reply_of_leases answer)
-leases_apart (leases.Acquired until) = apart _ (λ n. refl) (λ k. refl) refl
-leases_apart (leases.Renewed until) = apart _ (λ n. refl) (λ k. refl) refl
-leases_apart leases.Released = apart _ (λ n. refl) (λ k. refl) refl
-leases_apart answer = apart _ (λ n. refl) (λ k. refl) refl
-
-blobs_apart : (first : Reply) (answer : BlobDone) → IsApart first → IsApart (reply_of_blobs first answer)
-blobs_apart first (blobs.Stored version) is = apart _ (λ n. refl) (λ k. refl) refl
-blobs_apart first blobs.Removed is = apart _ (λ n. refl) (λ k. refl) refl
-blobs_apart first answer is = is
-
-others_apart : (answer : Done) → IsApart (reply_of_others answer)
-others_apart answer = blobs_apart (reply_of_leases answer.leases) answer.blobs (leases_apart answer.leases)
-
--- a reply gives out and lists what the queues did
-bears_as_born : (n : ℕ) (first : Reply) (answer : QueueDone) → IsApart first → bears n (reply_of_queues first answer) ≡ born n answer
-bears_as_born n first (done.Stored number receipt) is = refl
-bears_as_born n first done.Swept is = is.births n
-bears_as_born n first answer is = refl
-
-gives_as_given : (k : ℕ) (first : Reply) (answer : QueueDone) → IsApart first → gives k (reply_of_queues first answer) ≡ given k answer
-gives_as_given k first (done.Stored number receipt) is = refl
-gives_as_given k first (done.Taken items) is = refl
-gives_as_given k first (done.Updated receipt) is = refl
-gives_as_given k first done.Swept is = is.receipts k
-gives_as_given k first answer is = refl
-
-items_as_listed : (first : Reply) (answer : QueueDone) → IsApart first → items_of (reply_of_queues first answer) ≡ items_in answer
-items_as_listed first (done.Taken items) is = refl
-items_as_listed first done.Swept is = is.items
-items_as_listed first answer is = refl
-
--- a step's reply does
-pub reply_bears : (n : ℕ) (answer : Done) → bears n (reply_of answer) ≡ born n answer.queues
-reply_bears n answer = bears_as_born n (reply_of_others answer) answer.queues (others_apart answer)
-
-pub reply_gives : (k : ℕ) (answer : Done) → gives k (reply_of answer) ≡ given k answer.queues
-reply_gives k answer = gives_as_given k (reply_of_others answer) answer.queues (others_apart answer)
-
-pub reply_lists : (answer : Done) → items_of (reply_of answer) ≡ items_in answer.queues
-reply_lists answer = items_as_listed (reply_of_others answer) answer.queues (others_apart answer)
-
-hold_as_told : (rows : List Message) (n m : ℕ) (command : Command) (answer : Done) → (signs_of rows m command (reply_of answer)).hold n ≡ hold_given n m (queue_ask command) answer.queues
-hold_as_told rows n m (Put queue delay ttl text) answer = refl
-hold_as_told rows n m (Take queue count hold) answer = ap (λ items. if lists n items then Some (after m hold) else None) (reply_lists answer)
-hold_as_told rows n m (Update queue number receipt hold text) answer = refl
-hold_as_told rows n m (Delete queue number receipt) answer = refl
-hold_as_told rows n m (Clear queue) answer = refl
-hold_as_told rows n m command answer = refl
-
-removes_as_told : (rows : List Message) (n m : ℕ) (command : Command) (reply : Reply) → (signs_of rows m command reply).removes n ≡ removes n m rows (queue_ask command)
-removes_as_told rows n m (Delete queue number receipt) reply = refl
-removes_as_told rows n m (Clear queue) reply = refl
-removes_as_told rows n m command reply = refl
+removes_as_told : (parts : Parts) (n m : ℕ) (command : Command) (reply : Reply) → (signs_of parts m command reply).removes n ≡ removes n m parts.queues.rows (queue_ask_in parts command)
+removes_as_told parts n m (Delete queue number receipt) reply = refl
+removes_as_told parts n m (Clear queue) reply = refl
+removes_as_told parts n m command reply = refl
 
 -- the queue and the expiry that a command gives
-record IsBirth (rows : List Message) (m : ℕ) (command : Command) (reply : Reply) : Type 0 where
-  pub queue : (signs_of rows m command reply).queue ≡ queue_given (queue_ask command)
-  pub expiry : (signs_of rows m command reply).expiry ≡ expiry_given m (queue_ask command)
+record IsBirth (parts : Parts) (m : ℕ) (command : Command) (reply : Reply) : Type 0 where
+  pub queue : (signs_of parts m command reply).queue ≡ queue_given (queue_ask_in parts command)
+  pub expiry : (signs_of parts m command reply).expiry ≡ expiry_given m (queue_ask_in parts command)
 
-birth_as_told : (rows : List Message) (m : ℕ) (command : Command) (reply : Reply) → IsBirth rows m command reply
-birth_as_told rows m (Put queue delay ttl text) reply = record { queue = refl; expiry = refl }
-birth_as_told rows m command reply = record { queue = refl; expiry = refl }
+birth_as_told : (parts : Parts) (m : ℕ) (command : Command) (reply : Reply) → IsBirth parts m command reply
+birth_as_told parts m (Put queue delay ttl text) reply = record { queue = refl; expiry = refl }
+birth_as_told parts m (Note function container blob) reply = record { queue = refl; expiry = refl }
+birth_as_told parts m command reply = record { queue = refl; expiry = refl }
 
 -- what has expired at a moment has at each later one
 pub expired_later : (m later : ℕ) (expiry : Option ℕ) → m ≤ later → is_before m expiry ≡ false → is_before later expiry ≡ false
@@ -171,7 +121,7 @@ module _ (events : List Event) (w : World) (command : Command) (now : ℕ) (new 
   more = events ++ e ∷ []
 
   abbrev ask : Ask
-  ask = queue_ask command
+  ask = made.ask
 
   abbrev answer : QueueDone
   answer = made.done.queues
@@ -179,10 +129,58 @@ module _ (events : List Event) (w : World) (command : Command) (now : ℕ) (new 
   whole_after : IsWhole new.parts.queues
   whole_after = Whole-outcome w.parts.queues ask m new.parts.queues answer h.whole made.queues
 
+  -- a number that is given now wasn't before
+  pub unborn_now : (number receipt : ℕ) → answer ≡ done.Stored number receipt → seen number w.parts.queues ≡ Unborn
+  unborn_now number receipt is = by_seen (seen number w.parts.queues) (h.seen number)
+    where
+      same : (n : ℕ) → (n == n) ≡ true
+      same n = grind (arith, nat_tests)
+
+      never : births number events ≡ 0
+      never =
+          let bearing : born number answer ≡ true = ap (born number) is ∙ same number in
+          let next = sym (gives_numbers w.parts.queues ask m new.parts.queues answer h.whole made.queues number) ∙ bearing in
+          let before = h.births number in
+          grind (arith, nat_tests, next, before)
+
+      by_seen : (s : Seen) → IsSeenBy number events w.last s → s ≡ Unborn
+      by_seen Unborn was = refl
+      by_seen (Stands row) was = absurd (omega (arith, never, was.born))
+      by_seen (Ended Deleted) was = absurd (omega (arith, never, was.0))
+      by_seen (Ended (Completed invocation)) was = absurd was
+      by_seen (Ended (Moved copy)) was = absurd was
+      by_seen (Ended Expired) was = absurd (omega (arith, never, was.born))
+
+  -- the row of a message that was put
+  pub stored_row : (queue : List ℕ) (delay : ℕ) (ttl : Option ℕ) (text : List ℕ) (about : Option About) (number receipt : ℕ)
+      → ask ≡ queue_asks.Put queue delay ttl text about → answer ≡ done.Stored number receipt
+      → row_of number new.parts.queues.rows ≡ Some (numbered number receipt (new_message m queue delay ttl text about))
+  stored_row queue delay ttl text about number receipt asks is =
+      row_seen number new.parts.queues (numbered number receipt (new_message m queue delay ttl text about))
+      (goes_as_answered w.parts.queues ask m new.parts.queues answer h.whole made.queues number
+      ∙ ap (goes_on m ask answer number) (unborn_now number receipt is)
+      ∙ ap (λ a. newly m a answer number) asks
+      ∙ ap (λ d. newly m (queue_asks.Put queue delay ttl text about) d number) is
+      ∙ ap (λ b. if b then Stands (numbered number receipt (new_message m queue delay ttl text about)) else Unborn) (same number))
+    where
+      same : (n : ℕ) → (n == n) ≡ true
+      same n = grind (arith, nat_tests)
+
+  own_receipt : HasOwnReceipt new.parts.queues.rows answer
+  own_receipt number receipt k is =
+      by_ask ask refl (ap (queue_laws.answers ask) (sym is) ∙ queues_answered w command now new reply made)
+    where
+      by_ask : (a : Ask) → ask ≡ a → queue_laws.answers a (done.Stored number receipt) ≡ true → has_receipt k (row_of number new.parts.queues.rows) ≡ (if receipt == k then 1 else 0)
+      by_ask (queue_asks.Put queue delay ttl text about) asks answers = ap (has_receipt k) (stored_row queue delay ttl text about number receipt asks is)
+      by_ask a asks answers = absurd (cc)
+
+  tellings : Tells new.parts.queues.rows reply answer
+  tellings = reply_tells w command now new reply made own_receipt
+
   births_push : (n : ℕ) → births n more ≡ births n events + (if born n answer then 1 else 0)
   births_push n =
       sum_by_push (λ (x : Event). cond (bears n x.reply) 1 0) events e
-      ∙ ap (λ b. births n events + (if b then 1 else 0)) (ap (bears n) made.replies ∙ reply_bears n made.done)
+      ∙ ap (λ b. births n events + (if b then 1 else 0)) (tellings.births n)
 
   births_after : (n : ℕ) → births n more ≡ once_below new.parts.queues.next_number n
   births_after n =
@@ -195,8 +193,8 @@ module _ (events : List Event) (w : World) (command : Command) (now : ℕ) (new 
   receipts_after : (k : ℕ) → receipts k more ≡ once_below new.parts.queues.next_receipt k
   receipts_after k =
       let moves = moves_little w.parts.queues ask m new.parts.queues answer made.queues in
-      sum_by_push (λ (x : Event). gives k x.reply) events e
-      ∙ ap (λ j. receipts k events + j) (ap (gives k) made.replies ∙ reply_gives k made.done ∙ gives_receipts w.parts.queues ask m new.parts.queues answer h.whole made.queues k)
+      sum_by_push (λ (x : Event). gives k x) events e
+      ∙ ap (λ j. receipts k events + j) (tellings.receipts k ∙ gives_receipts w.parts.queues ask m new.parts.queues answer h.whole made.queues k)
       ∙ ap (λ j. j + (if nat_le w.parts.queues.next_receipt k && nat_lt k new.parts.queues.next_receipt then 1 else 0)) (h.receipts k)
       ∙ more_below w.parts.queues.next_receipt new.parts.queues.next_receipt k h.whole.receipts moves.receipts
 
@@ -210,12 +208,12 @@ module _ (events : List Event) (w : World) (command : Command) (now : ℕ) (new 
   last_hold_is : (n : ℕ) → last_hold n more ≡ newer (last_hold n events) (hold_given n m ask answer)
   last_hold_is n =
       fold_push (λ held (x : Event). newer held ((signs x).hold n)) None events e
-      ∙ ap (newer (last_hold n events)) (ap (λ (r : Reply). (signs_of w.parts.queues.rows m command r).hold n) made.replies ∙ hold_as_told w.parts.queues.rows n m command made.done)
+      ∙ ap (newer (last_hold n events)) (hold_as_told w.parts n m command reply answer tellings.items ∙ as_asked w.parts command ask (λ a. hold_given n m a answer) made.asked (λ queue. refl))
 
   removed_is : (n : ℕ) → was_removed n more ≡ (was_removed n events || removes n m w.parts.queues.rows ask)
   removed_is n =
       or_push (list_any (λ (x : Event). (signs x).removes n)) (λ (x : Event). (signs x).removes n) refl (λ x xs. refl) events e
-      ∙ ap (λ r. was_removed n events || r) (removes_as_told w.parts.queues.rows n m command reply)
+      ∙ ap (λ r. was_removed n events || r) (removes_as_told w.parts n m command reply ∙ as_asked w.parts command ask (removes n m w.parts.queues.rows) made.asked (λ queue. refl))
 
   not_removed : (n : ℕ) → was_removed n events ≡ false → removes n m w.parts.queues.rows ask ≡ false → was_removed n more ≡ false
   not_removed n before by = removed_is n ∙ ap (λ r. r || removes n m w.parts.queues.rows ask) before ∙ by
@@ -252,13 +250,15 @@ module _ (events : List Event) (w : World) (command : Command) (now : ℕ) (new 
 
       first : (row : Message) → IsNew n m ask answer row → IsTold n more row
       first row one =
-          let bearing : bears n e.reply ≡ true = ap (bears n) made.replies ∙ reply_bears n made.done ∙ one.born in
+          let bearing : bears n e.reply ≡ true = tellings.births n ∙ one.born in
           let birth : birth_of n more ≡ Some e = birth_now n events e was.0 bearing in
-          let gave = birth_as_told w.parts.queues.rows m command reply in
+          let gave = birth_as_told w.parts m command reply in
+          let in_queue = as_asked w.parts command ask queue_given made.asked (λ queue. refl) in
+          let expires = as_asked w.parts command ask (expiry_given m) made.asked (λ queue. refl) in
           record {
             born = births_push n ∙ ap (λ b. births n events + (if b then 1 else 0)) one.born ∙ ap (λ k. k + 1) was.0;
-            queue = one.queue ∙ sym (ap queue_by birth ∙ gave.queue);
-            expiry = one.expiry ∙ sym (ap expiry_by birth ∙ gave.expiry);
+            queue = one.queue ∙ sym (ap queue_by birth ∙ gave.queue ∙ in_queue);
+            expiry = one.expiry ∙ sym (ap expiry_by birth ∙ gave.expiry ∙ expires);
             hold = one.unheld ∙ sym unheld;
             stays = not_removed n was.2 none.1;
           }
@@ -315,6 +315,10 @@ module _ (events : List Event) (w : World) (command : Command) (now : ℕ) (new 
 
   told_after : Told more new
   told_after = record { whole = whole_after; births = births_after; receipts = receipts_after; seen = seen_after }
+
+-- what the reply tells, and the row of a message that is put
+pub reply_as_told : (events : List Event) (w : World) (command : Command) (now : ℕ) (new : World) (reply : Reply) → Told events w → (made : Made w command now new reply) → Tells new.parts.queues.rows reply made.done.queues
+reply_as_told events w command now new reply h made = tellings events w command now new reply h made
 
 pub told_kept : IsKept Told
 told_kept = told_after

@@ -6,7 +6,7 @@ use Rattle.fh_hub.specs.Signs.{gives, bears}
 
 -- how often the trace gives out this receipt
 abbrev pub receipts : ℕ → List Event → ℕ
-receipts k events = sum_by (λ e. gives k e.reply) events
+receipts k events = sum_by (λ e. gives k e) events
 
 -- how many messages of the trace were born with this number
 abbrev pub births : ℕ → List Event → ℕ

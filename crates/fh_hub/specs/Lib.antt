@@ -17,3 +17,5 @@ pub mod Laws
 pub mod Places
 pub mod Guards
 pub mod Holders
+pub mod Noting
+pub mod Timing

@@ -33,7 +33,7 @@ has_good_lease command = true
 
 abbrev pub has_good_settings : FunctionSettings → Bool
 has_good_settings (forms.Queue queue batch threshold limit retry singleton) = is_queue_name queue
-has_good_settings (forms.Blob batch threshold limit retry singleton) = true
+has_good_settings settings = true
 
 -- a function, and what else its command names
 abbrev pub has_good_function : Command → Bool

@@ -2,14 +2,17 @@
 use Rattle.std.specs.Prelude.{ℕ, ◌==◌, Bool, false, ◌&&◌, if◌then◌else◌, List, [], count_by, Option, Some, None, is_some}
 use Rattle.std.specs.List.{list_any}
 use Rattle.fh_event.specs.declared.command.Command.{Command}
-use Rattle.fh_event.specs.declared.command.Command.TheVariants.{Put, Take, Update, Delete, Clear}
+use Rattle.fh_event.specs.declared.command.Command.TheVariants.{Put, Take, Update, Delete, Clear, Note}
 use Rattle.fh_event.specs.declared.reply.Item.{Item}
 use Rattle.fh_event.specs.declared.reply.Reply.{Reply}
-use Rattle.fh_event.specs.declared.reply.Reply.TheVariants.{Stored, Taken, Updated}
+use Rattle.fh_event.specs.declared.reply.Reply.TheVariants.{Stored, Taken, Updated, Noted}
 use Rattle.fh_queues.specs.declared.row.Message.{Message}
-use Rattle.fh_queues.specs.Rows.{is_of, is_visible, row_in}
+use Rattle.fh_queues.specs.Rows.{is_of, is_visible, row_in, row_of}
 use Rattle.fh_queues.specs.Outcome.{after, expiry_after}
 use Rattle.fh_queues.specs.Receipts.{is_named}
+use Rattle.fh_dispatch.specs.Queues.{inner_queue}
+use Rattle.fh_hub.specs.Stores.{Parts}
+use Rattle.fh_hub.specs.Asked.{number_in}
 use Rattle.fh_hub.specs.World.{effective_moment}
 use Rattle.fh_hub.specs.Replay.{Event}
 
@@ -35,43 +38,57 @@ items_of reply = []
 abbrev pub lists : ℕ → List Item → Bool
 lists n items = list_any (λ item. item.number == n) items
 
--- a take holds what it lists, an update holds what it names, a delete removes what it names with its newest receipt,
--- and a clear removes the live rows of its queue
-abbrev pub signs_of : List Message → ℕ → Command → Reply → Signs
-signs_of rows m (Put queue delay ttl text) reply = record no_signs { queue = queue; expiry = expiry_after m ttl }
-signs_of rows m (Take queue count hold) reply = record no_signs {
+-- a put gives its queue and its expiry, and a note the queue of its function, a take holds what it lists, an update holds
+-- what it names, a delete removes what it names with its newest receipt, and a clear removes the live rows of its queue
+abbrev pub signs_of : Parts → ℕ → Command → Reply → Signs
+signs_of parts m (Put queue delay ttl text) reply = record no_signs { queue = queue; expiry = expiry_after m ttl }
+signs_of parts m (Note function container blob) reply = record no_signs {
+  queue = inner_queue (number_in parts.work function);
+}
+signs_of parts m (Take queue count hold) reply = record no_signs {
   hold = λ n. if lists n (items_of reply) then Some (after m hold) else None;
   acts_on = λ row. is_visible queue m row && lists row.number (items_of reply);
 }
-signs_of rows m (Update queue number receipt hold text) reply = record no_signs {
+signs_of parts m (Update queue number receipt hold text) reply = record no_signs {
   hold = λ n. if number == n then Some (after m hold) else None;
   acts_on = λ row. is_named queue number receipt row;
 }
-signs_of rows m (Delete queue number receipt) reply = record no_signs {
+signs_of parts m (Delete queue number receipt) reply = record no_signs {
   removes = λ n. number == n;
   acts_on = λ row. is_named queue number receipt row;
 }
-signs_of rows m (Clear queue) reply = record no_signs {
-  removes = λ n. is_some (row_in queue n m rows);
+signs_of parts m (Clear queue) reply = record no_signs {
+  removes = λ n. is_some (row_in queue n m parts.queues.rows);
   acts_on = λ row. is_of queue row;
 }
-signs_of rows m command reply = no_signs
+signs_of parts m command reply = no_signs
 
 -- the moment at which the event's command acted
 abbrev pub acts_at : Event → ℕ
 acts_at e = effective_moment e.before e.moment
 
 abbrev pub signs : Event → Signs
-signs e = signs_of e.before.parts.queues.rows (acts_at e) e.command e.reply
+signs e = signs_of e.before.parts (acts_at e) e.command e.reply
 
--- how often the reply gives out this receipt
-abbrev pub gives : ℕ → Reply → ℕ
-gives k (Stored number receipt) = if receipt == k then 1 else 0
-gives k (Taken items) = count_by (λ item. item.receipt == k) items
-gives k (Updated receipt) = if receipt == k then 1 else 0
-gives k reply = 0
+-- a row has this receipt
+abbrev pub has_receipt : ℕ → Option Message → ℕ
+has_receipt k None = 0
+has_receipt k (Some row) = if row.receipt == k then 1 else 0
+
+-- how often a reply gives out this receipt; that to a note doesn't tell it, but the row of its message has it
+abbrev pub gives_by : ℕ → List Message → Reply → ℕ
+gives_by k rows (Stored number receipt) = if receipt == k then 1 else 0
+gives_by k rows (Taken items) = count_by (λ item. item.receipt == k) items
+gives_by k rows (Updated receipt) = if receipt == k then 1 else 0
+gives_by k rows (Noted number) = has_receipt k (row_of number rows)
+gives_by k rows reply = 0
+
+-- how often the event gives out this receipt
+abbrev pub gives : ℕ → Event → ℕ
+gives k e = gives_by k e.after.parts.queues.rows e.reply
 
 -- the reply gives a new message this number
 abbrev pub bears : ℕ → Reply → Bool
 bears n (Stored number receipt) = number == n
+bears n (Noted number) = number == n
 bears n reply = false

@@ -11,6 +11,8 @@ ghost use Rattle.fh_queues.specs.Whole.{IsWhole};
 ghost use Rattle.fh_hub.specs.Places.{IsInOnePlace, IsLocated};
 ghost use Rattle.fh_hub.specs.Guards.{GuardsMessages, RisesOver, HasOwnMoment};
 ghost use Rattle.fh_hub.specs.Holders.{IsHeldByOne};
+ghost use Rattle.fh_hub.specs.Noting.{IsNotedOnce, NotesByMessage};
+ghost use Rattle.fh_hub.specs.Timing.{IsDueInTime, RunsInTurn};
 
 /// A file stands for one legal history at most, or is broken first at one place by one rule; where it has
 /// more than 7 bytes, not both.
@@ -76,4 +78,26 @@ pub fn legal_events_have_their_moments()
 /// until a later moment, and from whom nothing took it since. That one and that end the world tells.
 pub fn leases_have_one_holder()
     ensures { (history : List Entry) (x : List ℕ) (t : ℕ) → (replay history).last ≤ t → IsHeldByOne history x t }
+{}
+
+/// A version of a blob is noted for a function once at most, and exactly where the function has its receipt.
+pub fn versions_are_noted_once()
+    ensures { (history : List Entry) (f : ℕ) (c b : List ℕ) (v : ℕ) → IsNotedOnce history f c b v }
+{}
+
+/// A note is answered by the number of a new message that waits in the function's own queue, never expires,
+/// and tells of the blob as it was.
+pub fn notes_have_their_messages()
+    ensures { (history : List Entry) → All NotesByMessage (trace history) }
+{}
+
+/// The due times that replies tell of one function number rise, each above the one before, also where the timer
+/// is armed or configured anew; and a function has at most one run ready.
+pub fn runs_come_in_turn()
+    ensures { (history : List Entry) (f : ℕ) → RunsInTurn history f }
+{}
+
+/// A due time that a reply tells is one of the schedule in force.
+pub fn due_times_are_scheduled()
+    ensures { (history : List Entry) → All IsDueInTime (trace history) }
 {}

@@ -12,12 +12,15 @@
 #![tactic(auto)]
 
 mod asking;
+mod asks;
 mod damaged;
 mod faults;
 mod history;
 mod hub;
 mod laws;
 mod mounting;
+mod names;
+mod note;
 mod plan;
 mod replies;
 mod state;
@@ -28,9 +31,10 @@ pub use faults::{HubFault, HubRule};
 pub use history::History;
 pub use hub::Hub;
 pub use laws::{
-    files_have_one_history, leases_have_one_holder, legal_events_have_their_moments,
-    messages_are_in_one_place, messages_are_located, numbers_are_given_once, queues_are_whole,
-    receipts_are_given_once, receipts_guard_messages, receipts_only_rise,
+    due_times_are_scheduled, files_have_one_history, leases_have_one_holder,
+    legal_events_have_their_moments, messages_are_in_one_place, messages_are_located,
+    notes_have_their_messages, numbers_are_given_once, queues_are_whole, receipts_are_given_once,
+    receipts_guard_messages, receipts_only_rise, runs_come_in_turn, versions_are_noted_once,
 };
 pub use mounting::prepare;
 pub use plan::{Change, Plan, Staged};

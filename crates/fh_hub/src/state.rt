@@ -1,7 +1,7 @@
 // What a hub keeps in memory.
 ghost use Rattle.std.specs.Prelude.{◌≡◌, ℕ, ◌-◌, ◌^◌, ◌≤◌, ◌∷◌, ◌++◌, [], min, max, length, IfOk, IfErr, OnErr};
 ghost use Rattle.fh_base.specs.Moments.{greatest_moment};
-ghost use Rattle.fh_event.specs.Entries.{IsEntry, HasShortTexts};
+ghost use Rattle.fh_event.specs.Entries.{IsEntry, HasShortTexts, GivesGoodMasks};
 ghost use Rattle.fh_journal.specs.Journal.{gate_behind};
 ghost use Rattle.fh_queues.specs.Places.{place_of};
 ghost use Rattle.fh_hub.specs.Asked.{AsksAll, asked};
@@ -126,6 +126,7 @@ impl State {
         match Asked::of(alloc, &self.stores, command, m)? {
             Asked::Refuses(rule) => Err(PlanFault::Rule(rule)),
             Asked::Reads(reply) => Ok(Plan::Reads(reply)),
+            Asked::Notes(note) => self.plan_asks(alloc, command, &note.asks(), m),
             Asked::Asks(asks) => self.plan_asks(alloc, command, &asks, m),
         }
     }
@@ -257,7 +258,8 @@ fn size_rule(size: u64) -> Option<Rule>
 
 /// The bytes of a command's entry.
 pub(crate) fn payload_of(alloc: Global, command: &Command, m: Moment) -> Result<Bytes, NoMemory>
-    requires { HasShortTexts command.now }
+    requires texts { HasShortTexts command.now }
+    requires masks { GivesGoodMasks command.now }
     ensures spelled { IfOk result (λ payload. IsEntry payload m command.now) }
     ensures entry { IfOk result (λ payload. entry_of payload ≡ entry_for command.now m) }
 {

@@ -3,16 +3,30 @@ ghost use Rattle.std.specs.Prelude.{◌≡◌, true, false, Ok, IfOk, IfErr, OnE
 ghost use Rattle.fh_event.specs.Judging.{Quiets, Makes, first_rule};
 ghost use Rattle.fh_queues.specs.Places.{place_of};
 ghost use Rattle.fh_queues.specs.Outcome.{peeked};
+ghost use Rattle.fh_queues.specs.Outcome as queue_outcome;
 ghost use Rattle.fh_queues.specs.Faults.{IsFaultOf};
-ghost use Rattle.fh_blobs.specs.Part.{blob_of};
-ghost use Rattle.fh_hub.specs.Stores.{Parts, no_parts, outcomes, too_full};
+ghost use Rattle.fh_queues.specs.Faults as queue_faults;
+ghost use Rattle.fh_blobs.specs.Part.{blob_of, unnoted};
+ghost use Rattle.fh_timers.specs.Edits as timer_edits;
+ghost use Rattle.fh_timers.specs.Outcome as timer_outcome;
+ghost use Rattle.fh_dispatch.specs.Faults.{IsQueuesPlanOf, IsTimersPlanOf};
+ghost use Rattle.fh_dispatch.specs.Asks.{GivesGoodMasks};
+ghost use Rattle.fh_dispatch.specs.Faults as work_faults;
+ghost use Rattle.fh_dispatch.specs.Outcome as work_outcome;
+ghost use Rattle.fh_dispatch.specs.Queues.{asks_queues};
+ghost use Rattle.fh_dispatch.specs.Ready.{is_busy};
+ghost use Rattle.fh_dispatch.specs.Timers.{asks_timers, timer_of};
+ghost use Rattle.fh_dispatch.specs.Part.{function_of};
+ghost use Rattle.fh_hub.specs.Stores.{Parts, no_parts, run_made, asked_queues, asked_timers, outcomes, too_full};
 ghost use Rattle.fh_hub.specs.StoreEdits.{parts_of, asks_of, done_of, planned, changed, answered, both_planned, IsPlanOf, made, made_done, IsOutcome, HasNumbers, IsIdle, IsStaged};
 
-use fh_base::{Moment, NoMemory, QueueName, Rule};
+use fh_base::{Moment, NoMemory, QueueName, Rule, Text};
 use fh_blobs::{BlobAsk, BlobChange, BlobDone, BlobRow, Blobs, StagedBlobs};
+use fh_dispatch::{Function, StagedWork, Timer, Work, WorkAsk, WorkChange, WorkDone, WorkPlan};
 use fh_event::{Items, Place, PlanFault};
 use fh_leases::{LeaseAsk, LeaseChange, LeaseDone, Leases, StagedLeases};
 use fh_queues::{QueueAsk, QueueChange, QueueDone, Queues, StagedQueues};
+use fh_timers::{StagedTimers, TimerAsk, TimerChange, TimerDone, TimerRun, Timers};
 use std::alloc::Global;
 use std::marker::Model;
 
@@ -22,6 +36,8 @@ pub struct Stores {
     queues: Queues,
     blobs: Blobs,
     leases: Leases,
+    timers: Timers,
+    work: Work,
 }
 
 impl Model for Stores {
@@ -29,7 +45,7 @@ impl Model for Stores {
 
     ghost Value = { StoresState };
 
-    ghost view = { λ s. record { queues = s.queues; blobs = s.blobs; leases = s.leases } };
+    ghost view = { λ s. record { queues = s.queues; blobs = s.blobs; leases = s.leases; timers = s.timers; work = s.work } };
 }
 
 /// What is asked of each store.
@@ -38,6 +54,8 @@ pub(crate) struct StoreAsks<'a> {
     pub(crate) queues: QueueAsk<'a>,
     pub(crate) blobs: BlobAsk<'a>,
     pub(crate) leases: LeaseAsk<'a>,
+    pub(crate) timers: TimerAsk,
+    pub(crate) work: WorkAsk<'a>,
 }
 
 /// A change of each store. It may be dropped.
@@ -46,6 +64,8 @@ pub(crate) struct StoreChanges {
     pub(crate) queues: QueueChange,
     pub(crate) blobs: BlobChange,
     pub(crate) leases: LeaseChange,
+    pub(crate) timers: TimerChange,
+    pub(crate) work: WorkChange,
 }
 
 /// A change of each store that has its memory. It has to be settled or unstaged.
@@ -53,6 +73,8 @@ pub(crate) struct StagedStores {
     pub(crate) queues: StagedQueues,
     pub(crate) blobs: StagedBlobs,
     pub(crate) leases: StagedLeases,
+    pub(crate) timers: StagedTimers,
+    pub(crate) work: StagedWork,
 }
 
 /// What each store did.
@@ -61,6 +83,8 @@ pub(crate) struct StoresDone {
     pub(crate) queues: QueueDone,
     pub(crate) blobs: BlobDone,
     pub(crate) leases: LeaseDone,
+    pub(crate) timers: TimerDone,
+    pub(crate) work: WorkDone,
 }
 
 impl Stores {
@@ -73,6 +97,8 @@ impl Stores {
             queues: Queues::new(alloc),
             blobs: Blobs::new(alloc),
             leases: Leases::new(alloc),
+            timers: Timers::new(alloc),
+            work: Work::new(alloc),
         }
     }
 
@@ -106,7 +132,50 @@ impl Stores {
         self.blobs.get(container, name)
     }
 
-    /// The changes that asks make at a moment, or the first rule that refuses them.
+    /// The names of a container's blobs whose versions a function hasn't noted.
+    pub(crate) fn unnoted(
+        &self,
+        alloc: Global,
+        function: u64,
+        container: &QueueName,
+    ) -> Result<Vec<Text>, NoMemory>
+        ensures { IfOk result (λ names. names.items ≡ unnoted self.now.blobs.part function container.now) }
+    {
+        self.blobs.unnoted(alloc, function, container)
+    }
+
+    /// A function as it is.
+    pub(crate) fn function_of(&self, name: &str) -> Option<&Function>
+        ensures { option_copied result ≡ function_of name.now self.now.work.part.functions }
+    {
+        self.work.function_of(name)
+    }
+
+    /// The timer of a function.
+    pub(crate) fn timer_of(&self, name: &str) -> Option<Timer>
+        ensures { result ≡ timer_of name.now self.now.work.part.functions }
+    {
+        self.work.timer_of(name)
+    }
+
+    /// Whether a job of a function is in work.
+    pub(crate) fn is_busy(&self, function: u64) -> bool
+        ensures { result ≡ is_busy function self.now.work.part.ready }
+    {
+        self.work.is_busy(function)
+    }
+
+    /// The run that the timers would make.
+    pub(crate) fn run_made(&self, alloc: Global, ask: &TimerAsk, m: Moment) -> Option<TimerRun>
+        ensures { result ≡ run_made (timer_outcome.outcome self.now.timers.part ask.now m) }
+    {
+        match self.timers.plan(alloc, ask, m) {
+            Ok(change) => change.run(),
+            Err(_) => unreachable!(),
+        }
+    }
+
+    /// The changes that asks make at a moment, or the rule that refuses them.
     #[tactic(auto, unfolding(crate::specs::Stores::outcomes))]
     pub(crate) fn plan(
         &self,
@@ -116,20 +185,102 @@ impl Stores {
     ) -> Result<StoreChanges, PlanFault>
         requires idle { IsIdle self.now }
         requires numbers { HasNumbers (parts_of self.now) }
-        ensures { IsPlanOf (parts_of self.now)
+        ensures plan { IsPlanOf (parts_of self.now)
             (outcomes (parts_of self.now) (asks_of asks.now) m) result }
+        ensures masks { IfOk result
+            (λ changes. GivesGoodMasks (asks_of asks.now).work) }
     {
-        let queues = self.queues.plan(alloc, &asks.queues, m);
+        let WorkPlan {
+            work,
+            queues: asked,
+            blobs: _,
+            leases: _,
+            timers,
+        } = self.plan_work(alloc, asks, m)?;
+        let timers = self.plan_timers(alloc, timers, asks, m);
+        let queues = self.plan_queues(alloc, asked, asks, m);
         let blobs = self.blobs.plan(alloc, &asks.blobs, m);
         let leases = self.leases.plan(alloc, &asks.leases, m);
-        let others = both_planned(blobs, leases);
-        match both_planned(queues, others) {
-            Ok((queues, (blobs, leases))) => Ok(StoreChanges {
+        let held = both_planned(blobs, leases);
+        let others = both_planned(queues, held);
+        match both_planned(timers, others) {
+            Ok((timers, (queues, (blobs, leases)))) => Ok(StoreChanges {
                 queues,
                 blobs,
                 leases,
+                timers,
+                work,
             }),
             Err(fault) => Err(fault),
+        }
+    }
+
+    // What the work makes of its ask, and asks of timers and queues.
+    fn plan_work(
+        &self,
+        alloc: Global,
+        asks: &StoreAsks<'_>,
+        m: Moment,
+    ) -> Result<WorkPlan, PlanFault>
+        requires idle { IsIdle self.now }
+        requires numbers { HasNumbers (parts_of self.now) }
+        ensures work { work_faults.IsPlanOf self.now.work.part
+            (work_outcome.outcome self.now.work.part (asks_of asks.now).work m) result }
+        ensures queues { IfOk result (λ plan. IsQueuesPlanOf self.now.queues.part
+            (asks_queues self.now.work.part self.now.queues.part (asks_of asks.now).work) m plan.queues) }
+        ensures timers { IfOk result (λ plan. IsTimersPlanOf self.now.timers.part
+            (asks_timers self.now.work.part (asks_of asks.now).work) m plan.timers) }
+        ensures masks { IfOk result (λ plan. GivesGoodMasks (asks_of asks.now).work) }
+    {
+        self.work.plan(
+            alloc,
+            &asks.work,
+            &self.queues,
+            &self.blobs,
+            &self.leases,
+            &self.timers,
+            m,
+        )
+    }
+
+    // What the timers make of what the work asks of them, or else of what the command asks.
+    fn plan_timers(
+        &self,
+        alloc: Global,
+        asked: Option<TimerChange>,
+        asks: &StoreAsks<'_>,
+        m: Moment,
+    ) -> Result<TimerChange, PlanFault>
+        requires idle { IsIdle self.now }
+        requires asked { IsTimersPlanOf self.now.timers.part
+            (asks_timers self.now.work.part (asks_of asks.now).work) m asked }
+        ensures { timer_edits.IsPlanOf self.now.timers.part
+            (timer_outcome.outcome self.now.timers.part (asked_timers (parts_of self.now) (asks_of asks.now)) m) result }
+    {
+        match asked {
+            Some(change) => Ok(change),
+            None => self.timers.plan(alloc, &asks.timers, m),
+        }
+    }
+
+    // What the queues make of what the work asks of them, or else of what the command asks.
+    fn plan_queues(
+        &self,
+        alloc: Global,
+        asked: Option<QueueChange>,
+        asks: &StoreAsks<'_>,
+        m: Moment,
+    ) -> Result<QueueChange, PlanFault>
+        requires idle { IsIdle self.now }
+        requires numbers { HasNumbers (parts_of self.now) }
+        requires asked { IsQueuesPlanOf self.now.queues.part
+            (asks_queues self.now.work.part self.now.queues.part (asks_of asks.now).work) m asked }
+        ensures { queue_faults.IsPlanOf self.now.queues.part
+            (queue_outcome.outcome self.now.queues.part (asked_queues (parts_of self.now) (asks_of asks.now)) m) result }
+    {
+        match asked {
+            Some(change) => Ok(change),
+            None => self.queues.plan(alloc, &asks.queues, m),
         }
     }
 
@@ -156,27 +307,50 @@ impl Stores {
             queues,
             blobs,
             leases,
+            timers,
+            work,
         } = changes;
+        let work = match self.work.stage(work) {
+            Ok(work) => work,
+            Err(fault) => return Err(fault),
+        };
         let queues = match self.queues.stage(queues) {
             Ok(queues) => queues,
-            Err(fault) => return Err(fault),
+            Err(fault) => {
+                self.work.unstage(work);
+                return Err(fault);
+            }
         };
         let blobs = match self.blobs.stage(blobs) {
             Ok(blobs) => blobs,
             Err(fault) => {
+                self.work.unstage(work);
                 self.queues.unstage(queues);
                 return Err(fault);
             }
         };
-        match self.leases.stage(leases) {
-            Ok(leases) => Ok(StagedStores {
+        let leases = match self.leases.stage(leases) {
+            Ok(leases) => leases,
+            Err(fault) => {
+                self.work.unstage(work);
+                self.queues.unstage(queues);
+                self.blobs.unstage(blobs);
+                return Err(fault);
+            }
+        };
+        match self.timers.stage(timers) {
+            Ok(timers) => Ok(StagedStores {
                 queues,
                 blobs,
                 leases,
+                timers,
+                work,
             }),
             Err(fault) => {
+                self.work.unstage(work);
                 self.queues.unstage(queues);
                 self.blobs.unstage(blobs);
+                self.leases.unstage(leases);
                 Err(fault)
             }
         }
@@ -193,11 +367,15 @@ impl Stores {
             queues,
             blobs,
             leases,
+            timers,
+            work,
         } = staged;
         StoresDone {
             queues: self.queues.settle(queues),
             blobs: self.blobs.settle(blobs),
             leases: self.leases.settle(leases),
+            timers: self.timers.settle(timers),
+            work: self.work.settle(work),
         }
     }
 
@@ -211,10 +389,14 @@ impl Stores {
             queues,
             blobs,
             leases,
+            timers,
+            work,
         } = staged;
         self.queues.unstage(queues);
         self.blobs.unstage(blobs);
         self.leases.unstage(leases);
+        self.timers.unstage(timers);
+        self.work.unstage(work);
     }
 }
 
@@ -225,7 +407,10 @@ impl StoreChanges {
         ensures loud { (parts : Parts) → result ≡ false
             → planned parts self.now ≡ Makes (changed parts self.now) (answered self.now) }
     {
-        self.queues.is_quiet() || self.blobs.is_quiet()
+        self.queues.is_quiet()
+            || self.blobs.is_quiet()
+            || self.timers.is_quiet()
+            || self.work.is_quiet()
     }
 
     /// What is answered.
@@ -236,11 +421,15 @@ impl StoreChanges {
             queues,
             blobs,
             leases,
+            timers,
+            work,
         } = self;
         StoresDone {
             queues: queues.into_done(),
             blobs: blobs.into_done(),
             leases: leases.into_done(),
+            timers: timers.into_done(),
+            work: work.into_done(),
         }
     }
 }
