@@ -1,10 +1,10 @@
 -- What a crash leaves of a run's journal, and what its bytes stand for.
-use Rattle.std.proofs.Common.{◌≡◌, ◌⊎◌, inl, inr, ⊎_elim, ℕ, ◌≤◌, false, List, [], ◌++◌, Option, Some, IfSome, refl, sym, subst, append_assoc, append-nil, arith}
+use Rattle.std.proofs.Common.{◌≡◌, ◌⊎◌, inl, inr, ⊎_elim, ℕ, ◌≤◌, false, List, [], ◌++◌, Some, IfSome, refl, sym, subst, append_assoc, append-nil, arith}
 use Rattle.std.proofs.lemmas.Option.{IfSome_then}
 use Rattle.fh_disk.specs.Moments.{LeavesOnly}
 use Rattle.fh_disk.specs.declared.disk.Disk.{Ghosts}
 use Rattle.fh_journal.specs.Journal.{IsJournalOf}
-use Rattle.fh_disk.specs.Disk.{StaysTold}
+use Rattle.fh_disk.specs.Disk.{Each, StaysTold}
 use Rattle.fh_hub.specs.Hub.{KeepsIn, LeavesSince, MayStandFor, StandsForHistory}
 use Rattle.fh_hub.specs.declared.hub.Hub.{Hub}
 use Rattle.fh_hub.specs.History.{entry_of}
@@ -12,17 +12,6 @@ use Rattle.fh_hub.specs.Replay.{Entry}
 use Rattle.fh_script.specs.Answerer.{HoldsIn, StandsEither}
 use Rattle.fh_script.specs.Outside.{crash_of}
 use Rattle.fh_script.specs.Script.{StandsForPart, SurvivesCrash}
-
-module _ {D : Type 0} (J : Ghosts D) where
-  -- two runs of calls, one behind the other
-  joins : (old mid new : D) (P Q R : List ℕ → Type 0) → LeavesOnly J.moment J.left_since old mid P
-      → LeavesOnly J.moment J.left_since mid new Q
-      → ((c : List ℕ) → P c → R c) → ((c : List ℕ) → Q c → R c) → LeavesOnly J.moment J.left_since old new R
-  joins old mid new P Q R first second p q = grind arith
-
-  widens : (old new : D) (P Q : List ℕ → Type 0) → LeavesOnly J.moment J.left_since old new P
-      → ((c : List ℕ) → P c → Q c) → LeavesOnly J.moment J.left_since old new Q
-  widens old new P Q only wider = grind arith
 
 module _ {D : Type 0} {J : Ghosts D} {hub : Hub D J} (holds : HoldsIn hub) where
   pub stands : IfSome (J.told hub.journal.disk.now) (StandsForHistory hub.state.history)
@@ -43,12 +32,7 @@ module _ {D : Type 0} {J : Ghosts D} {hub : Hub D J} (holds : HoldsIn hub) where
   -- a line that makes no call
   pub leaves_as_was : ((disk : D) (c : List ℕ) → J.left_since disk (J.moment disk) c → J.may_leave disk c)
       → (entries : List Entry) → LeavesSince hub hub (StandsEither hub.state.history entries)
-  leaves_as_was only_now entries =
-      IfSome_then (J.told hub.journal.disk.now) holds.keeps (λ file each. record {
-        later = omega arith;
-        each = λ c left. inl (inr (hub.journal.gate, each.after_crash c (only_now hub.journal.disk.now c left)));
-        before = λ t c le left. inl left;
-      })
+  leaves_as_was only_now entries = grind (arith, holds.keeps)
 
 module _ {D : Type 0} {J : Ghosts D} {old : Hub D J} (holds : HoldsIn old) (new : Hub D J) where
   -- behind a step that went well
@@ -66,9 +50,7 @@ module _ {D : Type 0} {J : Ghosts D} {old : Hub D J} (holds : HoldsIn old) (new 
       → LeavesSince old new (StandsEither old.state.history entries)
   leaves_either entries leaves =
       IfSome_then (J.told old.journal.disk.now) (leaves (entry_of []) (kept holds (entry_of []))) (λ file only.
-      widens J _ _ _ _ only
-      (λ c. ⊎_elim (λ before. inl before)
-      (⊎_elim (λ behind. inr behind) (λ broken. absurd (cc (broken.0, holds.whole))))))
+      grind (arith, only, holds.whole))
 
 part_of_either : (opening behind entries : List Entry) (c : List ℕ) → StandsEither (opening ++ behind) entries c
     → StandsForPart opening (behind ++ entries) c
@@ -81,6 +63,9 @@ part_of_either opening behind entries c (inr after) = record {
   stands = rw append_assoc at after;
 }
 
+part_of_none : (opening : List Entry) (c : List ℕ) → StandsForHistory opening c → StandsForPart opening [] c
+part_of_none opening c stands = record { front = []; rest = []; whole = refl; stands = rw append-nil stands }
+
 part_grows : (opening behind entries : List Entry) (c : List ℕ) → StandsForPart opening behind c
     → StandsForPart opening (behind ++ entries) c
 part_grows opening behind entries c it = record {
@@ -90,43 +75,32 @@ part_grows opening behind entries c it = record {
   stands = it.stands;
 }
 
--- what follows from two facts on told bytes
-where_both : (told now : Option (List ℕ)) (A B C : Type 0) → StaysTold told now → IfSome told (λ _. A)
-    → IfSome now (λ _. B) → (A → B → C) → IfSome told (λ _. C)
-where_both told now A B C stays one two then = grind arith
-
 module _ {D : Type 0} (J : Ghosts D) where
   abbrev Leaves : D → D → (List ℕ → Type 0) → Type 0
   Leaves old new P = IfSome (J.told old) (λ _. LeavesOnly J.moment J.left_since old new P)
 
-  -- what is told is one of the images
+  -- what is told is one of the images, and each of these is left since then
   pub told_is_left : (old new : D) (P : List ℕ → Type 0)
       → ((disk : D) (c : List ℕ) → J.told disk ≡ Some c → J.may_leave disk c)
       → ((disk : D) (t : ℕ) (c : List ℕ) → t ≤ J.moment disk → J.may_leave disk c → J.left_since disk t c)
-      → StaysTold (J.told old) (J.told new) → Leaves old new P → IfSome (J.told new) P
+      → StaysTold (J.told old) (J.told new) → Leaves old new P
+      → IfSome (J.told new) (λ file. Each file (J.may_leave new) P)
   told_is_left old new P reads counts stays leaves = grind arith
+
+  -- calls that go on
+  grows : (first mid new : D) (P Q R : List ℕ → Type 0) → StaysTold (J.told first) (J.told mid) → crash_of J first mid P
+      → Leaves mid new Q → ((c : List ℕ) → P c → R c) → ((c : List ℕ) → Q c → R c) → crash_of J first new R
+  grows first mid new P Q R stays before line p q = grind arith
 
   -- one line more
   pub more_images : (first mid new : D) (opening behind entries : List Entry) → StaysTold (J.told first) (J.told mid)
       → crash_of J first mid (StandsForPart opening behind) → Leaves mid new (StandsEither (opening ++ behind) entries)
       → crash_of J first new (StandsForPart opening (behind ++ entries))
   more_images first mid new opening behind entries stays before line =
-      where_both (J.told first) (J.told mid) _ _ _ stays before line
-      (λ one two. joins J first mid new _ _ _ one two
-      (λ c. ⊎_elim (λ a. inl a) (λ it. inr (part_grows opening behind entries c it)))
-      (λ c now. inr (part_of_either opening behind entries c now)))
+      grows first mid new _ _ _ stays before line (part_grows opening behind entries)
+      (part_of_either opening behind entries)
 
   -- behind a mount
   pub mounted_images : (first mid : D) (opening : List Entry) → crash_of J first mid (StandsForHistory opening)
       → crash_of J first mid (StandsForPart opening [])
-  mounted_images first mid opening leaves =
-      IfSome_then (J.told first) leaves (λ file only.
-      widens J first mid _ _ only
-      (λ c. ⊎_elim (λ a. inl a) (λ b. inr (record { front = []; rest = []; whole = refl; stands = rw append-nil b }))))
-
--- bytes that are told stay told
-pub stays_as_told : (told : Option (List ℕ)) → StaysTold told told
-stays_as_told told = grind arith
-
-pub stays_told : (told mid now : Option (List ℕ)) → StaysTold told mid → StaysTold mid now → StaysTold told now
-stays_told told mid now first second = grind arith
+  mounted_images first mid opening leaves = grind (arith, part_of_none)

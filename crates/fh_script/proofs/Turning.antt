@@ -7,25 +7,28 @@ use Rattle.std.proofs.lemmas.List.Folds.{list_all-append}
 use Rattle.std.proofs.lemmas.List.Sums.{fold-append}
 use Rattle.std.proofs.KnownBytes.{Appends-nil, Appends-trans, Consumes-nil, Consumes-trans}
 use Rattle.std.specs.Io.KnownBytes.{Appends}
-use Rattle.fh_base.specs.declared.ends.PlainEnd.{PlainEnd}
-use Rattle.fh_base.specs.declared.ends.PlainEnd.TheVariants.{Finished, ReadFault, DiskFault, WriteFault, LongLine, NoMemory}
+use Rattle.fh_base.specs.declared.ends.PlainEnd.TheVariants.{Finished, WriteFault}
 use Rattle.fh_base.specs.declared.source.Source.{Ghosts as SourceGhosts}
 use Rattle.fh_base.specs.declared.sink.Sink.{Ghosts as SinkGhosts}
-use Rattle.fh_disk.specs.Moments.{LeavesOnly}
 use Rattle.fh_disk.specs.declared.disk.Disk.{Ghosts}
-use Rattle.fh_disk.specs.Disk.{StaysTold}
+use Rattle.fh_disk.specs.Disk.{Each, StaysTold}
 use Rattle.fh_hub.specs.Hub.{LeavesSince, StandsForHistory}
 use Rattle.fh_hub.specs.Replay.{Entry, replay}
 use Rattle.fh_hub.specs.State.{IsFaithful, world_of}
 use Rattle.fh_hub.specs.World.{World}
 use Rattle.fh_script.specs.declared.answerer.Answerer.{Answerer}
-use Rattle.fh_script.specs.Answerer.{HasDone, HoldsIn, LacksMemory, StandsEither, StaysToldIn, done_in}
-use Rattle.fh_script.specs.Lines.{EndsAt, FindsLine, IsFirstLine, Took, line_feeds, line_length}
+use Rattle.fh_script.specs.declared.faults.AnswerFault.{AnswerFault}
+use Rattle.fh_script.specs.declared.faults.AnswerFault.TheVariants as answers
+use Rattle.fh_script.specs.declared.faults.LineFault.{LineFault}
+use Rattle.fh_script.specs.declared.faults.LineFault.TheVariants.{ReadFault, TooLong, NoMemory}
+use Rattle.fh_script.specs.Answerer.{HasDone, HasNoAnswer, HoldsIn, StandsEither, StaysToldIn, done_in}
+use Rattle.fh_script.specs.Ends.{end_of_answer, end_of_line}
+use Rattle.fh_script.specs.Lines.{FindsEnd, FindsLine, HasLineReason, IsFirstLine, Took, line_feeds, line_length}
 use Rattle.fh_script.specs.Machine.{Done, State, after_line, opening_in, printed, run}
 use Rattle.fh_script.specs.Outside.{Counts, Imaging, Outside, crash_of, outside_of}
 use Rattle.fh_script.specs.Running.{EndsWith, Running, RunsOn, outside_in}
 use Rattle.fh_script.specs.Script.{HasPlainReason, Ran, Reads, StandsForPart, is_short_line, joined, with_line}
-use Rattle.fh_script.proofs.Crashes.{more_images, mounted_images, stands, stays_told}
+use Rattle.fh_script.proofs.Crashes.{more_images, mounted_images, stands}
 use Rattle.fh_script.proofs.LineReading.{line_feeds-append}
 
 short-push : (done : List (List ℕ)) (line : List ℕ) → list_all is_short_line done ≡ true → line_length line ≤ 140000
@@ -53,9 +56,9 @@ feeds-push done line feeds one = rw (joined-push done line)
     (omega (arith, line_feeds-append (joined done) line, feeds, one, length-append done (line ∷ [])))
 
 -- told bytes that stand for one of two histories
-one_of_two : (told : Option (List ℕ)) (A B : List ℕ → Type 0) → IfSome told (λ file. A file ⊎ B file)
-    → IfSome told A ⊎ IfSome told B
-one_of_two told A B either = grind arith
+one_of_two : (told : Option (List ℕ)) (images A B : List ℕ → Type 0)
+    → IfSome told (λ file. Each file images (λ c. A c ⊎ B c)) → IfSome told A ⊎ IfSome told B
+one_of_two told images A B either = grind arith
 
 module _ {was now : Outside} {leaves : Imaging} {world : World} {moment : ℕ} {history : List Entry}
     (it : Running was now leaves world moment history) (left : Option (List ℕ)) (reads : ℕ) where
@@ -73,18 +76,23 @@ module _ {was now : Outside} {leaves : Imaging} {world : World} {moment : ℕ} {
     images = rw it.comes it.images;
   }
 
-  pub stops : (end : PlainEnd) → EndsAt now.left left end
-      → (end ≡ ReadFault → line_feeds (joined it.lines.done) ≡ length it.lines.done) → HasPlainReason was Now leaves end
+  -- nothing was left
+  pub finished : FindsEnd now.left left → HasPlainReason was Now leaves Finished
   unfolding ran
-  stops Finished found feeds =
+  finished found =
       (ran (record { taken = []; consumed = found.consumed; few = omega arith }), (found.was_ended, found.ended))
+
+  -- the next line wasn't read
+  pub stops : (fault : LineFault) → HasLineReason now.left left fault
+      → line_feeds (joined it.lines.done) ≡ length it.lines.done → HasPlainReason was Now leaves (end_of_line fault)
+  unfolding ran
   stops ReadFault part feeds = (
     ran part.took,
-    omega (arith, line_feeds-append (joined it.lines.done) part.took.taken, feeds refl, part.part),
+    omega (arith, line_feeds-append (joined it.lines.done) part.took.taken, feeds, part.part),
   )
-  stops LongLine long feeds = (ran long.1, long.0)
+  stops TooLong long feeds =
+      (ran (record { taken = long.taken; consumed = long.consumed; few = omega (arith, long.long) }), long.starts)
   stops NoMemory took feeds = inl (ran took)
-  stops _ ends feeds = absurd ends
 
 -- A line was read, and perhaps done.
 module _ {A B D : Type 0} {J : Ghosts D} {S : SourceGhosts A} {O : SinkGhosts B} {was : Outside} {first : D}
@@ -142,21 +150,19 @@ module _ {A B D : Type 0} {J : Ghosts D} {S : SourceGhosts A} {O : SinkGhosts B}
       → RanLine now_sink (Some line)
   made_line now_sink stands = ran_line now_sink (Some line) (rw (after, ← grown) stands)
 
-  pub disk_fails : IfSome (J.told now_disk) (StandsEither old.hub.state.history does.entries)
-      → EndsWith S O was first next sink new DiskFault
-  disk_fails either = (
+  -- the line has no answer
+  pub unanswered : (fault : AnswerFault) → HasNoAnswer old new does fault
+      → EndsWith S O was first next sink new (end_of_answer fault)
+  unanswered answers.DiskFault doubt = (
     line,
     ⊎_elim (λ before. inl (ran_line sink None (rw (it.run.comes, ← it.run.longer) before)))
         (λ made. inr (made_line sink made))
-        (one_of_two (J.told now_disk) (StandsForHistory old.hub.state.history)
-        (StandsForHistory (old.hub.state.history ++ does.entries)) either),
+        (one_of_two (J.told now_disk) (J.may_leave now_disk) (StandsForHistory old.hub.state.history)
+        (StandsForHistory (old.hub.state.history ++ does.entries)) doubt.stands),
   )
-
-  pub unanswered : LacksMemory old new does.entries → EndsWith S O was first next sink new NoMemory
-  unanswered lacks =
-      ⊎_elim
-      (λ same. rw same.0 (stops it.run (S.left next) (S.read_faults next) NoMemory took_line (λ is. absurd (cc is))))
-      (λ made. inr (line, made_line sink (rw made at (stands lacks.holds)))) lacks.made
+  unanswered answers.NoMemory lacks =
+      ⊎_elim (λ same. rw same.disk (inl (ran it.run (S.left next) (S.read_faults next) took_line)))
+      (λ done. inr (line, made_line sink (rw done.history at (stands done.holds)))) lacks.either
 
   module _ (text : List ℕ) (done : HasDone old new does text) (now_sink : B) where
     -- the answer was written in part
@@ -205,7 +211,7 @@ module _ {A B D : Type 0} {J : Ghosts D} {S : SourceGhosts A} {O : SinkGhosts B}
     next_line writes one stays = record {
       run = goes_on writes;
       feeds = feeds-push it.run.lines.done line it.feeds one;
-      told = stays_told _ _ _ it.told stays;
+      told = grind arith;
     }
 
 -- counts behind a part in which nothing failed

@@ -1,16 +1,16 @@
 -- What a line does to a hub and the moment that lines hand in.
-use Rattle.std.specs.Prelude.{◌≡◌, ◌⊎◌, ℕ, false, List, [], ◌++◌, Option, Some, Result, Ok, Err, string_bytes}
+use Rattle.std.specs.Prelude.{◌≡◌, ◌⊎◌, ℕ, false, List, [], ◌++◌, length, Option, Some, IfSome, Result, Ok, Err, string_bytes}
 use Rattle.std.specs.declared.string.String.{String}
 use Rattle.std.specs.declared.alloc.Global.{Global}
 use Rattle.fh_base.specs.Faults.{Rose}
-use Rattle.fh_disk.specs.Disk.{StaysTold}
+use Rattle.fh_disk.specs.Disk.{Each, StaysTold}
 use Rattle.fh_disk.specs.declared.disk.Disk.{Ghosts}
 use Rattle.fh_event.specs.declared.command.Command.{Command}
 use Rattle.fh_journal.specs.Keeping.{Keeps}
 use Rattle.fh_hub.specs.declared.hub.Hub.{Hub}
 use Rattle.fh_hub.specs.Hub.{StandsForHistory}
 use Rattle.fh_hub.specs.Replay.{Entry, payloads_of}
-use Rattle.fh_hub.specs.State.{world_of}
+use Rattle.fh_hub.specs.State.{IsUnchanged, world_of}
 use Rattle.fh_script.specs.declared.answerer.Answerer.{Answerer}
 use Rattle.fh_script.specs.declared.faults.AnswerFault.{AnswerFault}
 use Rattle.fh_script.specs.declared.faults.AnswerFault.TheVariants as answers
@@ -47,13 +47,31 @@ pub record HasDone {D : Type 0} {J : Ghosts D} (old new : Answerer D J) (does : 
   pub history : new.hub.state.history ≡ old.hub.state.history ++ does.entries
   pub holds : HoldsIn new.hub
 
--- Memory was refused before the first call on the disk, or behind a step that was made. Either way the journal stands
+-- the disk, the world, the history and the moment are as they were
+pub record IsUntouched {D : Type 0} {J : Ghosts D} (old new : Answerer D J) : Type 0 where
+  pub disk : new.hub.journal.disk.now ≡ old.hub.journal.disk.now
+  pub state : IsUnchanged old.hub.state new.hub.state
+  pub moment : new.now ≡ old.now
+
+-- Memory was refused before the first call on the disk, or behind a line that was done. Either way the journal stands
 -- for the hub's history, also after a crash.
-pub record LacksMemory {D : Type 0} {J : Ghosts D} (old new : Answerer D J) (entries : List Entry) : Type 0 where
+pub record LacksMemory {D : Type 0} {J : Ghosts D} (old new : Answerer D J) (does : Done) : Type 0 where
   pub holds : HoldsIn new.hub
-  pub made :
-      (new.hub.journal.disk.now ≡ old.hub.journal.disk.now) × (new.hub.state.history ≡ old.hub.state.history)
-      ⊎ (new.hub.state.history ≡ old.hub.state.history ++ entries)
+  pub either : IsUntouched old new ⊎ HasDone old new does (printed does.text)
+
+-- A call on the disk failed, in a line with one entry. World, history and moment are as they were; where the bytes are
+-- told, they and each image stand for that history, or for the one with the entry behind it.
+pub record IsInDoubt {D : Type 0} {J : Ghosts D} (old new : Answerer D J) (entries : List Entry) : Type 0 where
+  pub one : length entries ≡ 1
+  pub state : IsUnchanged old.hub.state new.hub.state
+  pub moment : new.now ≡ old.now
+  pub stands : IfSome (J.told new.hub.journal.disk.now)
+      (λ file. Each file (J.may_leave new.hub.journal.disk.now) (StandsEither old.hub.state.history entries))
+
+-- what a line leaves that has no answer
+abbrev pub HasNoAnswer : {D : Type 0} {J : Ghosts D} → Answerer D J → Answerer D J → Done → AnswerFault → Type 0
+HasNoAnswer old new does answers.DiskFault = IsInDoubt old new does.entries
+HasNoAnswer old new does answers.NoMemory = LacksMemory old new does
 
 -- a disk counts a fault where it failed, and nowhere else
 abbrev pub CountsAnswer : {T : Type 0} → ℕ → ℕ → Result T AnswerFault → Type 0

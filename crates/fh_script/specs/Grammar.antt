@@ -1,12 +1,13 @@
 -- The grammar of a line: what it stands for, or its fault.
-use Rattle.std.specs.Prelude.{ℕ, ◌+◌, ◌==◌, if◌then◌else◌, List, [], ◌∷◌, length, slice_index_or, codes, Some, None, Result, Ok, Err}
+use Rattle.std.specs.Prelude.{ℕ, ◌+◌, ◌==◌, nat_lt, if◌then◌else◌, List, [], ◌∷◌, length, slice_index_or, codes, Some, None, Result, Ok, Err}
 use Rattle.std.specs.Str.{bytes_eq, is_utf8}
-use Rattle.fh_event.specs.declared.command.Command.TheVariants.{MakeQueue, Put, Take, Update, Delete, Clear, PutBlob, DeleteBlob, Note, Acquire, RenewLease, ReleaseLease, Peek, GetBlob, Locate, Unnoted}
+use Rattle.fh_event.specs.declared.command.Command.TheVariants.{MakeQueue, Put, Take, Update, Delete, Clear, PutBlob, DeleteBlob, Note, Acquire, RenewLease, ReleaseLease, Configure, Arm, Tick, Peek, GetBlob, Locate, Unnoted}
+use Rattle.fh_event.specs.declared.settings.FunctionSettings.TheVariants.{Queue, Blob, Timer}
 use Rattle.fh_script.specs.declared.faults.WordFault.{WordFault}
 use Rattle.fh_script.specs.declared.faults.WordFault.TheVariants.{BadText, BadWord, BadCount}
 use Rattle.fh_script.specs.declared.grammar.LineAsk.{LineAsk}
 use Rattle.fh_script.specs.declared.grammar.LineAsk.TheVariants.{Blank, At, Ask}
-use Rattle.fh_script.specs.Forms.{◌>>=◌, Form, number, number_or, lifetime, text, Meaning, meaning_of}
+use Rattle.fh_script.specs.Forms.{◌>>=◌, Form, number, number_or, lifetime, text, flag, schedule, as_it_is, Meaning, meaning_of}
 use Rattle.fh_script.specs.Lines.{line_text}
 use Rattle.fh_script.specs.Words.{words}
 
@@ -86,6 +87,44 @@ renew_line = read (text ∷ number ∷ []) (λ lease holder. Ask (RenewLease lea
 unfoldable pub release_line : List (List ℕ) → Result LineAsk WordFault
 release_line = read (text ∷ number ∷ []) (λ lease holder. Ask (ReleaseLease lease holder))
 
+-- the settings of a function on a queue, behind its name and the word `queue`
+unfoldable pub queue_function_line : List (List ℕ) → Result LineAsk WordFault
+queue_function_line =
+    read (text ∷ as_it_is ∷ text ∷ number ∷ number ∷ number ∷ number ∷ number ∷ [])
+    (λ function form queue batch threshold limit retry singleton.
+    Ask (Configure function (Queue queue batch threshold limit retry singleton)))
+
+-- those of a function on blobs, behind its name and the word `blob`
+unfoldable pub blob_function_line : List (List ℕ) → Result LineAsk WordFault
+blob_function_line =
+    read (text ∷ as_it_is ∷ number ∷ number ∷ number ∷ number ∷ number ∷ [])
+    (λ function form batch threshold limit retry singleton.
+    Ask (Configure function (Blob batch threshold limit retry singleton)))
+
+-- those of a function that runs by a schedule, behind its name and the word `timer`
+unfoldable pub timer_function_line : List (List ℕ) → Result LineAsk WordFault
+timer_function_line =
+    read (text ∷ as_it_is ∷ schedule ∷ flag ∷ flag ∷ number ∷ [])
+    (λ function form masks startup monitor singleton. Ask (Configure function (Timer masks startup monitor singleton)))
+
+unfoldable pub arm_line : List (List ℕ) → Result LineAsk WordFault
+arm_line = read (text ∷ []) (λ function. Ask (Arm function))
+
+unfoldable pub tick_line : List (List ℕ) → Result LineAsk WordFault
+tick_line = read (text ∷ []) (λ function. Ask (Tick function))
+
+-- the word behind the function says of which form its settings are
+unfoldable pub function_line : List ℕ → List (List ℕ) → Result LineAsk WordFault
+function_line form words =
+    if bytes_eq form (codes "queue") then queue_function_line words
+    else if bytes_eq form (codes "blob") then blob_function_line words
+    else if bytes_eq form (codes "timer") then timer_function_line words
+    else Err BadWord
+
+unfoldable pub configure_line : List (List ℕ) → Result LineAsk WordFault
+configure_line words =
+    if nat_lt (length words) 2 then Err BadCount else function_line (slice_index_or words 1 []) words
+
 unfoldable pub line_of_words : List (List ℕ) → Result LineAsk WordFault
 line_of_words [] = Ok Blank
 line_of_words (verb ∷ words) =
@@ -106,6 +145,9 @@ line_of_words (verb ∷ words) =
     else if bytes_eq verb (codes "acquire") then acquire_line words
     else if bytes_eq verb (codes "renew") then renew_line words
     else if bytes_eq verb (codes "release") then release_line words
+    else if bytes_eq verb (codes "configure") then configure_line words
+    else if bytes_eq verb (codes "arm") then arm_line words
+    else if bytes_eq verb (codes "tick") then tick_line words
     else Err BadWord
 
 -- what the bytes of a line stand for, with or without the line feed

@@ -1,12 +1,11 @@
 -- The lines of a script, each with the bytes that end it, and what reading one takes from a source.
-use Rattle.std.specs.Prelude.{◌≡◌, ⊤, ℕ, ◌+◌, ◌-◌, ◌<◌, ◌≤◌, ◌==◌, nat_eq, List, [], ◌∷◌, length, take, if◌then◌else◌, Bool, true, false, Option, Some, None, MatchBool}
+use Rattle.std.specs.Prelude.{◌≡◌, ⊤, ℕ, ◌+◌, ◌-◌, ◌<◌, ◌≤◌, ◌==◌, nat_eq, List, [], ◌∷◌, length, take, if◌then◌else◌, Bool, true, false, Option, Some, None, Result, Ok, Err}
 use Rattle.std.specs.List.{count_by, ends_with}
 use Rattle.std.specs.Io.KnownBytes.{Consumes, IsAtEnd}
 use Rattle.fh_base.specs.Faults.{Rose}
 use Rattle.fh_base.specs.Limits.{longest_line}
-use Rattle.fh_base.specs.declared.ends.PlainEnd.{PlainEnd}
-use Rattle.fh_base.specs.declared.ends.PlainEnd.TheVariants.{Finished, ReadFault, LongLine, NoMemory}
-use Rattle.fh_script.specs.Ends.{code_so_far}
+use Rattle.fh_script.specs.declared.faults.LineFault.{LineFault}
+use Rattle.fh_script.specs.declared.faults.LineFault.TheVariants.{ReadFault, TooLong, NoMemory}
 
 abbrev pub is_line_feed : ℕ → Bool
 is_line_feed b = b == 10
@@ -62,6 +61,11 @@ pub record FindsEnd (was now : Option (List ℕ)) : Type 0 where
   pub ended : IsAtEnd now
   pub consumed : Consumes was now []
 
+-- a line was read, or there was none
+abbrev pub ReadsLine : Option (List ℕ) → Option (List ℕ) → List ℕ → Bool → Type 0
+ReadsLine was now line true = FindsLine was now line
+ReadsLine was now line false = FindsEnd was now
+
 -- where a source tells: its first line is too long
 abbrev pub StartsLong : Option (List ℕ) → Type 0
 StartsLong None = ⊤
@@ -78,14 +82,23 @@ pub record TookPart (was now : Option (List ℕ)) : Type 0 where
   pub took : Took was now
   pub part : line_feeds took.taken ≡ 0
 
--- how lines end where none was read: nothing was left, the source failed, the line is too long, or memory was refused
-abbrev pub EndsAt : Option (List ℕ) → Option (List ℕ) → PlainEnd → Type 0
-EndsAt was now Finished = FindsEnd was now
-EndsAt was now ReadFault = TookPart was now
-EndsAt was now LongLine = StartsLong was × Took was now
-EndsAt was now NoMemory = Took was now
-EndsAt was now other = ⊥
+-- the first line is too long: 140,001 bytes of it were taken
+pub record TookLong (was now : Option (List ℕ)) : Type 0 where
+  pub starts : StartsLong was
+  pub taken : List ℕ
+  pub consumed : Consumes was now taken
+  pub part : line_feeds taken ≡ 0
+  pub long : length taken ≡ longest_line + 1
+
+-- why no line was read: the source failed, the line is too long, or memory was refused
+abbrev pub HasLineReason : Option (List ℕ) → Option (List ℕ) → LineFault → Type 0
+HasLineReason was now ReadFault = TookPart was now
+HasLineReason was now TooLong = TookLong was now
+HasLineReason was now NoMemory = Took was now
 
 -- a source counts a fault where it failed, and nowhere else
-abbrev pub CountsRead : ℕ → ℕ → Option PlainEnd → Type 0
-CountsRead before now end = MatchBool (code_so_far end == 5) (Rose before now) (now ≡ before)
+abbrev pub CountsRead : {T : Type 0} → ℕ → ℕ → Result T LineFault → Type 0
+CountsRead before now (Ok found) = now ≡ before
+CountsRead before now (Err ReadFault) = Rose before now
+CountsRead before now (Err TooLong) = now ≡ before
+CountsRead before now (Err NoMemory) = now ≡ before

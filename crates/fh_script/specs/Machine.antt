@@ -10,7 +10,7 @@ use Rattle.fh_hub.specs.World.{World, step}
 use Rattle.fh_hub.specs.Hub.{answer}
 use Rattle.fh_hub.specs.Replay.{Entry, noted, replay, world_after}
 use Rattle.fh_script.specs.declared.faults.WordFault.{WordFault}
-use Rattle.fh_script.specs.declared.faults.WordFault.TheVariants.{BadText, BadWord, BadCount, BadNumber, NoMemory}
+use Rattle.fh_script.specs.declared.faults.WordFault.TheVariants.{BadText, BadWord, BadCount, BadNumber, BadSchedule, NoMemory}
 use Rattle.fh_script.specs.declared.grammar.LineAsk.{LineAsk}
 use Rattle.fh_script.specs.declared.grammar.LineAsk.TheVariants.{Blank, At, Ask}
 use Rattle.fh_script.specs.Grammar.{line_of}
@@ -32,6 +32,7 @@ fault_text BadText = codes "bad text"
 fault_text BadWord = codes "bad word"
 fault_text BadCount = codes "bad count"
 fault_text BadNumber = codes "bad number"
+fault_text BadSchedule = codes "bad schedule"
 fault_text NoMemory = []
 
 abbrev pub text_of_answer : Result Reply Rule → List ℕ

@@ -1,5 +1,5 @@
 // What answers lines: a hub, and the moment that lines hand in.
-ghost use Rattle.std.specs.Prelude.{◌≡◌, ◌++◌, [], ◌∷◌, Some, IfOk, OnOk, string_bytes};
+ghost use Rattle.std.specs.Prelude.{◌≡◌, ◌++◌, [], ◌∷◌, Some, OnErr, OnOk, string_bytes};
 ghost use Rattle.fh_event.specs.Lines.{answer_line as answer_line_of};
 ghost use Rattle.fh_script.specs.Answerer.{IsText};
 ghost use Rattle.fh_script.specs.Machine.{at_text, fault_text, moment_after, printed};
@@ -20,10 +20,10 @@ pub struct Answerer<'d, J: Disk> {
 }
 
 impl<'d, J: Disk> Answerer<'d, J> {
-    ghost use Rattle.std.specs.Prelude.{◌≡◌, false, IfOk, IsErrOf, string_bytes};
+    ghost use Rattle.std.specs.Prelude.{◌≡◌, false, IfOk, IfErr, string_bytes};
     ghost use Rattle.fh_hub.specs.Hub.{LeavesSince, faults_of};
     ghost use Rattle.fh_hub.specs.State.{IsIdle};
-    ghost use Rattle.fh_script.specs.Answerer.{CountsAnswer, HasDone, Holds, HoldsIn, LacksMemory, StandsEither, StaysToldIn, done_in, made_in};
+    ghost use Rattle.fh_script.specs.Answerer.{CountsAnswer, HasDone, HasNoAnswer, Holds, HoldsIn, StandsEither, StaysToldIn, done_in, made_in};
 
     /// Over a disk whose journal was prepared, at the moment 0. Takes no memory.
     pub fn over(alloc: Global, disk: &'d mut J, state: State) -> Answerer<'d, J>
@@ -52,13 +52,12 @@ impl<'d, J: Disk> Answerer<'d, J> {
 
     /// Does what a line says, and gives the text that answers it: empty for a line of no words. Where that
     /// text finds no memory the step may have been made.
-    #[tactic(auto, unfolding(crate::specs::Machine::answer_line), using(crate::proofs::Crashes::leaves_as_was, crate::proofs::Crashes::stays_as_told))]
+    #[tactic(auto, unfolding(crate::specs::Machine::answer_line), using(crate::proofs::Crashes::leaves_as_was))]
     pub fn answer(&mut self, alloc: Global, line: &[u8]) -> Result<String, AnswerFault>
         requires holds { HoldsIn self.old.hub }
         ensures done { IfOk result
             (λ text. HasDone self.old self.new (done_in self.old line.now) (string_bytes text)) }
-        ensures memory { IsErrOf result AnswerFault.NoMemory
-            → LacksMemory self.old self.new (done_in self.old line.now).entries }
+        ensures fault { IfErr result (HasNoAnswer self.old self.new (done_in self.old line.now)) }
         ensures any_moment { LeavesSince self.old.hub self.new.hub
             (StandsEither self.old.hub.state.history (done_in self.old line.now).entries) }
         ensures counts { CountsAnswer (faults_of self.old.hub) (faults_of self.new.hub) result }
@@ -79,8 +78,7 @@ impl<'d, J: Disk> Answerer<'d, J> {
         requires holds { HoldsIn self.old.hub }
         ensures done { IfOk result
             (λ text. HasDone self.old self.new (made_in self.old command.now) (string_bytes text)) }
-        ensures memory { IsErrOf result AnswerFault.NoMemory
-            → LacksMemory self.old self.new (made_in self.old command.now).entries }
+        ensures fault { IfErr result (HasNoAnswer self.old self.new (made_in self.old command.now)) }
         ensures any_moment { LeavesSince self.old.hub self.new.hub
             (StandsEither self.old.hub.state.history (made_in self.old command.now).entries) }
         ensures counts { CountsAnswer (faults_of self.old.hub) (faults_of self.new.hub) result }
@@ -101,6 +99,7 @@ impl<'d, J: Disk> Answerer<'d, J> {
 fn set_moment(now: &mut u64, alloc: Global, ms: u64) -> Result<String, AnswerFault>
     ensures text { IsText result (at_text ms) }
     ensures moment { OnOk result (now.new ≡ moment_after now.old ms) }
+    ensures fault { OnErr result (now.new ≡ now.old) }
 {
     if Moment::new(ms).is_none() {
         return answer_line(alloc, Err(&Rule::MomentTooLate));
@@ -127,6 +126,7 @@ fn fault_line(alloc: Global, fault: WordFault) -> Result<String, AnswerFault>
         WordFault::BadWord => "bad word\n",
         WordFault::BadCount => "bad count\n",
         WordFault::BadNumber => "bad number\n",
+        WordFault::BadSchedule => "bad schedule\n",
         WordFault::NoMemory => return Err(AnswerFault::NoMemory),
     };
     Ok(String::from_str(alloc, text)?)

@@ -1,4 +1,4 @@
-// Why the words of a line ask for nothing, and why a line has no answer.
+// Why the words of a line ask for nothing, why a line isn't read, and why one has no answer.
 use fh_base::NoMemory;
 use std::alloc::AllocError;
 
@@ -13,6 +13,8 @@ pub enum WordFault {
     BadCount,
     /// A word for a number is none.
     BadNumber,
+    /// A word for a schedule is none.
+    BadSchedule,
     NoMemory,
 }
 
@@ -36,6 +38,15 @@ impl From<NoMemory> for WordFault {
     fn from(_refused: NoMemory) -> WordFault {
         WordFault::NoMemory
     }
+}
+
+/// Why no line is read.
+#[derive(Clone, Copy, Debug, PartialEq, Eq)]
+pub(crate) enum LineFault {
+    ReadFault,
+    /// The line has more than 140,000 bytes before its line feed.
+    TooLong,
+    NoMemory,
 }
 
 /// Why a line has no answer.

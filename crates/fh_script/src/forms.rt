@@ -1,10 +1,11 @@
 // What the words of a line stand for.
 ghost use Rattle.std.specs.Prelude.{◌≡◌};
 ghost use Rattle.fh_base.specs.Answers.{Gives};
-ghost use Rattle.fh_script.specs.Forms.{number_of, number_or_default, lifetime_of, text_of};
+ghost use Rattle.fh_script.specs.Forms.{number_of, number_or_default, lifetime_of, text_of, flag_of, masks_of_word};
 
 use crate::faults::WordFault;
 use fh_base::{SECONDS_OF_WEEK, Text, read_number};
+use fh_ncrontab::Schedule;
 use percent_encoding::{DecodeError, percent_decode};
 use std::alloc::Global;
 use std::borrow::CowStr;
@@ -56,5 +57,29 @@ pub(crate) fn text(alloc: Global, word: &str) -> Result<Text, WordFault>
         Ok(CowStr::Owned(text)) => Ok(Text::new(text)),
         Err(DecodeError::Utf8(_)) => Err(WordFault::BadText),
         Err(DecodeError::OutOfMemory) => Err(WordFault::NoMemory),
+    }
+}
+
+/// Yes or no: 1 or 0.
+#[tactic(auto, unfolding(crate::specs::Forms::flag_of))]
+pub(crate) fn flag(word: &str) -> Result<bool, WordFault>
+    ensures { result ≡ flag_of word.now }
+{
+    match number(word)? {
+        0 => Ok(false),
+        1 => Ok(true),
+        _ => Err(WordFault::BadNumber),
+    }
+}
+
+/// The masks of a schedule, whose text is escaped by percent signs so that it is one word (docs/schedules.md).
+#[tactic(auto, unfolding(crate::specs::Forms::masks_of_word))]
+pub(crate) fn masks(alloc: Global, word: &str) -> Result<[u64; 6], WordFault>
+    ensures { Gives WordFault.NoMemory result (masks_of_word word.now) }
+{
+    let text = text(alloc, word)?;
+    match Schedule::read(text.as_str()) {
+        Ok(schedule) => Ok(schedule.masks()),
+        Err(_) => Err(WordFault::BadSchedule),
     }
 }

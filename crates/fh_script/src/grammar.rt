@@ -1,15 +1,15 @@
 // Reading a line.
 ghost use Rattle.std.specs.Prelude.{◌≡◌, ◌≢◌, ◌<◌, [], length, slice_index_or, MatchResult};
 ghost use Rattle.fh_base.specs.Answers.{Gives};
-ghost use Rattle.fh_script.specs.Grammar.{line_of, line_of_words, at_line, queue_line, put_line, take_line, peek_line, update_line, delete_line, clear_line, where_line, blob_line, unblob_line, get_line, note_line, unnoted_line, acquire_line, renew_line, release_line};
+ghost use Rattle.fh_script.specs.Grammar.{line_of, line_of_words, at_line, queue_line, put_line, take_line, peek_line, update_line, delete_line, clear_line, where_line, blob_line, unblob_line, get_line, note_line, unnoted_line, acquire_line, renew_line, release_line, configure_line, function_line, queue_function_line, blob_function_line, timer_function_line, arm_line, tick_line};
 ghost use Rattle.fh_script.specs.Words.{texts};
 
 use crate::faults::WordFault;
-use crate::forms::{lifetime, number, number_or, text};
+use crate::forms::{flag, lifetime, masks, number, number_or, text};
 use crate::lines::line_text;
 use crate::words::words_of;
 use fh_base::utf8_text;
-use fh_event::Command;
+use fh_event::{Command, FunctionSettings};
 use std::alloc::Global;
 
 /// What a line asks for.
@@ -68,6 +68,9 @@ fn read_words(alloc: Global, words: &[&str]) -> Result<LineAsk, WordFault>
         "acquire" => read_acquire(alloc, words),
         "renew" => read_renew(alloc, words),
         "release" => read_release(alloc, words),
+        "configure" => read_configure(alloc, words),
+        "arm" => read_arm(alloc, words),
+        "tick" => read_tick(alloc, words),
         _ => Err(WordFault::BadWord),
     }
 }
@@ -268,6 +271,100 @@ fn read_release(alloc: Global, words: &[&str]) -> Result<LineAsk, WordFault>
     Ok(LineAsk::Ask(Command::ReleaseLease {
         lease: text(alloc, word(words, 0))?,
         holder: number(word(words, 1))?,
+    }))
+}
+
+#[tactic(auto, unfolding(crate::specs::Grammar::configure_line))]
+fn read_configure(alloc: Global, words: &[&str]) -> Result<LineAsk, WordFault>
+    ensures { Gives WordFault.NoMemory result (configure_line (texts words.now)) }
+{
+    if words.len() < 2 {
+        return Err(WordFault::BadCount);
+    }
+    read_function(alloc, word(words, 1), words)
+}
+
+// The word behind the function says of which form its settings are.
+#[tactic(auto, unfolding(crate::specs::Grammar::function_line))]
+fn read_function(alloc: Global, form: &str, words: &[&str]) -> Result<LineAsk, WordFault>
+    ensures { Gives WordFault.NoMemory result (function_line form.now (texts words.now)) }
+{
+    match form {
+        "queue" => read_queue_function(alloc, words),
+        "blob" => read_blob_function(alloc, words),
+        "timer" => read_timer_function(alloc, words),
+        _ => Err(WordFault::BadWord),
+    }
+}
+
+#[tactic(auto, unfolding(crate::specs::Grammar::queue_function_line))]
+fn read_queue_function(alloc: Global, words: &[&str]) -> Result<LineAsk, WordFault>
+    ensures { Gives WordFault.NoMemory result (queue_function_line (texts words.now)) }
+{
+    counted(words, 8)?;
+    Ok(LineAsk::Ask(Command::Configure {
+        function: text(alloc, word(words, 0))?,
+        settings: FunctionSettings::Queue {
+            queue: text(alloc, word(words, 2))?,
+            batch: number(word(words, 3))?,
+            threshold: number(word(words, 4))?,
+            limit: number(word(words, 5))?,
+            retry: number(word(words, 6))?,
+            singleton: number(word(words, 7))?,
+        },
+    }))
+}
+
+#[tactic(auto, unfolding(crate::specs::Grammar::blob_function_line))]
+fn read_blob_function(alloc: Global, words: &[&str]) -> Result<LineAsk, WordFault>
+    ensures { Gives WordFault.NoMemory result (blob_function_line (texts words.now)) }
+{
+    counted(words, 7)?;
+    Ok(LineAsk::Ask(Command::Configure {
+        function: text(alloc, word(words, 0))?,
+        settings: FunctionSettings::Blob {
+            batch: number(word(words, 2))?,
+            threshold: number(word(words, 3))?,
+            limit: number(word(words, 4))?,
+            retry: number(word(words, 5))?,
+            singleton: number(word(words, 6))?,
+        },
+    }))
+}
+
+#[tactic(auto, unfolding(crate::specs::Grammar::timer_function_line))]
+fn read_timer_function(alloc: Global, words: &[&str]) -> Result<LineAsk, WordFault>
+    ensures { Gives WordFault.NoMemory result (timer_function_line (texts words.now)) }
+{
+    counted(words, 6)?;
+    Ok(LineAsk::Ask(Command::Configure {
+        function: text(alloc, word(words, 0))?,
+        settings: FunctionSettings::Timer {
+            masks: masks(alloc, word(words, 2))?,
+            startup: flag(word(words, 3))?,
+            monitor: flag(word(words, 4))?,
+            singleton: number(word(words, 5))?,
+        },
+    }))
+}
+
+#[tactic(auto, unfolding(crate::specs::Grammar::arm_line))]
+fn read_arm(alloc: Global, words: &[&str]) -> Result<LineAsk, WordFault>
+    ensures { Gives WordFault.NoMemory result (arm_line (texts words.now)) }
+{
+    counted(words, 1)?;
+    Ok(LineAsk::Ask(Command::Arm {
+        function: text(alloc, word(words, 0))?,
+    }))
+}
+
+#[tactic(auto, unfolding(crate::specs::Grammar::tick_line))]
+fn read_tick(alloc: Global, words: &[&str]) -> Result<LineAsk, WordFault>
+    ensures { Gives WordFault.NoMemory result (tick_line (texts words.now)) }
+{
+    counted(words, 1)?;
+    Ok(LineAsk::Ask(Command::Tick {
+        function: text(alloc, word(words, 0))?,
     }))
 }
 

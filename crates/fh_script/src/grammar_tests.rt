@@ -1,5 +1,5 @@
 use super::*;
-use fh_event::Command;
+use fh_event::{Command, FunctionSettings};
 use std::alloc::Global;
 use std::test::Fail;
 
@@ -94,8 +94,47 @@ fn command_shown(alloc: Global, command: &Command) -> Result<String, Fail> {
         Command::ReleaseLease { lease, holder } => {
             format!(in alloc; "ReleaseLease [{}] {holder}", lease.as_str())?
         }
-        // No line configures a function yet.
-        Command::Configure { .. } => String::from_str(alloc, "Configure")?,
+        Command::Arm { function } => format!(in alloc; "Arm [{}]", function.as_str())?,
+        Command::Tick { function } => format!(in alloc; "Tick [{}]", function.as_str())?,
+        Command::Configure { function, settings } => {
+            let settings = settings_shown(alloc, &settings)?;
+            format!(in alloc; "Configure [{}] {}", function.as_str(), settings.as_str())?
+        }
+    };
+    Ok(shown)
+}
+
+fn settings_shown(alloc: Global, settings: &FunctionSettings) -> Result<String, Fail> {
+    let shown = match settings {
+        FunctionSettings::Queue {
+            queue,
+            batch,
+            threshold,
+            limit,
+            retry,
+            singleton,
+        } => format!(in alloc;
+            "Queue [{}] {batch} {threshold} {limit} {retry} {singleton}",
+            queue.as_str()
+        )?,
+        FunctionSettings::Blob {
+            batch,
+            threshold,
+            limit,
+            retry,
+            singleton,
+        } => format!(in alloc; "Blob {batch} {threshold} {limit} {retry} {singleton}")?,
+        FunctionSettings::Timer {
+            masks,
+            startup,
+            monitor,
+            singleton,
+        } => {
+            let [second, minute, hour, day, month, weekday] = masks;
+            format!(in alloc;
+                "Timer {second} {minute} {hour} {day} {month} {weekday} {startup} {monitor} {singleton}"
+            )?
+        }
     };
     Ok(shown)
 }
@@ -113,7 +152,7 @@ fn expect(rt: &HostRuntime, cases: &[(&[u8], &str)]) -> Result<(), Fail> {
 
 #[test]
 fn each_verb_has_its_command(rt: HostRuntime) -> Result<(), Fail> {
-    let cases: [(&[u8], &str); 19] = [
+    let cases: [(&[u8], &str); 24] = [
         (b"at 0", "at 0"),
         (b"at 253402300799999", "at 253402300799999"),
         (b"queue orders", "MakeQueue [orders]"),
@@ -136,6 +175,20 @@ fn each_verb_has_its_command(rt: HostRuntime) -> Result<(), Fail> {
         (b"acquire l 7 15", "Acquire [l] 7 15"),
         (b"renew l 7", "RenewLease [l] 7"),
         (b"release l 7", "ReleaseLease [l] 7"),
+        (
+            b"configure f queue orders 16 8 3 0 60",
+            "Configure [f] Queue [orders] 16 8 3 0 60",
+        ),
+        (
+            b"configure f blob 16 8 3 0 0",
+            "Configure [f] Blob 16 8 3 0 0",
+        ),
+        (
+            b"configure f timer 0%2030%201%202%203%204 0 1 15",
+            "Configure [f] Timer 1 1073741824 2 4 8 16 false true 15",
+        ),
+        (b"arm f", "Arm [f]"),
+        (b"tick f", "Tick [f]"),
     ];
     expect(&rt, &cases)
 }
@@ -196,7 +249,7 @@ fn a_text_is_decoded(rt: HostRuntime) -> Result<(), Fail> {
 
 #[test]
 fn the_first_fault_decides(rt: HostRuntime) -> Result<(), Fail> {
-    let cases: [(&[u8], &str); 20] = [
+    let cases: [(&[u8], &str); 31] = [
         (b"frob", "BadWord"),
         (b"Queue orders", "BadWord"),
         (b"%71ueue orders", "BadWord"),
@@ -216,7 +269,27 @@ fn the_first_fault_decides(rt: HostRuntime) -> Result<(), Fail> {
         (b"put orders 0 -1 %ff", "BadText"),
         (b"blob inbox a.txt", "BadCount"),
         (b"acquire l 7 -", "BadNumber"),
-        (b"configure f queue orders 16 8 3 0 0", "BadWord"),
+        (b"configure", "BadCount"),
+        (b"configure f", "BadCount"),
+        (b"configure f frob", "BadWord"),
+        (b"configure f timer 0 0 0", "BadCount"),
+        (
+            b"configure f timer 60%20*%20*%20*%20*%20* 2 x y",
+            "BadSchedule",
+        ),
+        (
+            b"configure f timer 0%200%200%2030%202%20* 0 0 0",
+            "BadSchedule",
+        ),
+        (
+            b"configure f timer *%20*%20*%20*%20*%20* 2 x y",
+            "BadNumber",
+        ),
+        (b"configure f timer %ff 2 x y", "BadText"),
+        (b"arm", "BadCount"),
+        (b"configure f queue orders 16 8 3 0", "BadCount"),
+        (b"configure f blob 16 8 3 0 0 0", "BadCount"),
+        (b"configure %ff queue orders x 8 3 0 0", "BadText"),
     ];
     expect(&rt, &cases)
 }

@@ -12,6 +12,7 @@
 #![tactic(auto)]
 
 mod answerer;
+mod ends;
 mod faults;
 mod forms;
 mod grammar;
@@ -26,8 +27,12 @@ pub use laws::printed_texts_are_read;
 pub use running::{is_script, script};
 
 #[cfg(test)]
+mod function_tests;
+#[cfg(test)]
 mod grammar_tests;
 #[cfg(test)]
 mod store_tests;
 #[cfg(test)]
 mod tests;
+#[cfg(test)]
+mod timer_tests;

@@ -1,44 +1,42 @@
 // The lines of a source.
-ghost use Rattle.std.specs.Prelude.{◌≡◌, ◌<◌, ◌==◌, true, false, IfNone, IfSome};
-ghost use Rattle.fh_script.specs.Ends.{code_so_far, is_of_lines};
-ghost use Rattle.fh_script.specs.Lines.{CountsRead, EndsAt, FindsLine, line_text};
+ghost use Rattle.std.specs.Prelude.{◌≡◌, ◌<◌, true, IfOk, IfErr};
+ghost use Rattle.fh_script.specs.Lines.{CountsRead, HasLineReason, ReadsLine, line_text};
 
-use fh_base::{LONGEST_LINE, PlainEnd, Source, read_byte};
+use crate::faults::LineFault;
+use fh_base::{LONGEST_LINE, Source, read_byte};
 
 const LINE_FEED: u8 = b'\n';
 
-/// Reads the next line into the buffer, with its line feed, and says how the lines end where there is none.
-/// A last line without a line feed counts where it isn't empty.
+/// Reads the next line into the buffer, with its line feed, and says whether there was one. A last line
+/// without a line feed counts where it isn't empty.
 #[tactic(auto, using(crate::proofs::LineReading::reading))]
-pub(crate) fn read_line<S: Source>(source: &mut S, line: &mut Vec<u8>) -> Option<PlainEnd>
-    ensures read { IfNone result (FindsLine (S.left source.old) (S.left source.new) line.new.items) }
-    ensures ends { IfSome result (EndsAt (S.left source.old) (S.left source.new)) }
+pub(crate) fn read_line<S: Source>(source: &mut S, line: &mut Vec<u8>) -> Result<bool, LineFault>
+    ensures read { IfOk result (ReadsLine (S.left source.old) (S.left source.new) line.new.items) }
+    ensures reason { IfErr result (HasLineReason (S.left source.old) (S.left source.new)) }
     ensures counts { CountsRead (S.read_faults source.old) (S.read_faults source.new) result }
-    ensures own { ((code_so_far result == 6) ≡ false) × ((code_so_far result == 7) ≡ false) }
-    ensures of_lines { is_of_lines (code_so_far result) ≡ true }
-    ensures less { IfNone result (S.most source.new < S.most source.old) }
+    ensures less { IfOk result (λ found. found ≡ true → S.most source.new < S.most source.old) }
 {
     line.clear();
     loop {
         let byte = match read_byte(source) {
             Ok(byte) => byte,
-            Err(_) => return Some(PlainEnd::ReadFault),
+            Err(_) => return Err(LineFault::ReadFault),
         };
         let Some(byte) = byte else {
             if line.is_empty() {
-                return Some(PlainEnd::Finished);
+                return Ok(false);
             }
-            return None;
+            return Ok(true);
         };
         match line.push(byte) {
             Ok(()) => {}
-            Err(_) => return Some(PlainEnd::NoMemory),
+            Err(_) => return Err(LineFault::NoMemory),
         }
         if byte == LINE_FEED {
-            return None;
+            return Ok(true);
         }
         if line.len() > LONGEST_LINE {
-            return Some(PlainEnd::LongLine);
+            return Err(LineFault::TooLong);
         }
     }
 }

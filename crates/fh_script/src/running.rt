@@ -9,7 +9,6 @@ ghost use Rattle.fh_script.specs.Running.{EndsWith, RunsOn, outside_in};
 ghost use Rattle.fh_script.specs.Script.{EndsBy, HasReason, IsReady, NoneRose, SurvivesCrash, is_certain, is_script};
 
 use crate::answerer::Answerer;
-use crate::faults::AnswerFault;
 use crate::lines::read_line;
 use fh_base::{PlainEnd, Sink, Source, Status, write_all, write_last_line};
 use fh_disk::Disk;
@@ -79,7 +78,6 @@ fn conclude<O: Sink>(sink: &mut O, end: PlainEnd) -> Status
 }
 
 // Tests the words, mounts the journal, and answers the lines.
-#[tactic(auto, using(crate::proofs::Crashes::stays_as_told, crate::proofs::Crashes::stays_told))]
 fn run<S: Source, O: Sink, J: Disk>(
     alloc: Global,
     words: &[String],
@@ -114,7 +112,7 @@ fn run<S: Source, O: Sink, J: Disk>(
 }
 
 // Answers the lines from the first on, and says how they end.
-#[tactic(auto, using(crate::proofs::Crashes::stays_as_told, crate::proofs::Crashes::stays_told, crate::proofs::Turning::counts_on))]
+#[tactic(auto, using(crate::proofs::Turning::counts_on))]
 fn answer_lines<S: Source, O: Sink, J: Disk>(
     alloc: Global,
     source: &mut S,
@@ -163,14 +161,14 @@ fn answer_next<S: Source, O: Sink, J: Disk>(
     ensures same { answerer.new.hub.journal.disk.ghost_name ≡ answerer.old.hub.journal.disk.ghost_name }
 {
     match read_line(source, line) {
-        Some(end) => return Some(end),
-        None => {}
+        Ok(true) => {}
+        Ok(false) => return Some(PlainEnd::Finished),
+        Err(fault) => return Some(PlainEnd::from(fault)),
     }
     let line = line.as_slice();
     let text = match answerer.answer(alloc, line) {
         Ok(text) => text,
-        Err(AnswerFault::DiskFault) => return Some(PlainEnd::DiskFault),
-        Err(AnswerFault::NoMemory) => return Some(PlainEnd::NoMemory),
+        Err(fault) => return Some(PlainEnd::from(fault)),
     };
     match write_all(sink, text.as_bytes()) {
         Ok(()) => {}

@@ -114,23 +114,6 @@ fn refusals_of_blobs_in_the_order_of_the_rules(rt: HostRuntime) -> Result<(), Fa
 }
 
 #[test]
-fn no_function_notes_a_blob_yet(rt: HostRuntime) -> Result<(), Fail> {
-    let cases = [
-        ("note 1f inbox a\n", "no 2 BadName\n"),
-        ("note f in a\n", "no 2 BadName\n"),
-        ("note f inbox %\n", "no 2 BadName\n"),
-        ("note f inbox a\n", "no 5 NoSuchFunction\n"),
-        ("unnoted 1f inbox\n", "no 2 BadName\n"),
-        ("unnoted f in\n", "no 2 BadName\n"),
-        (
-            "blob inbox a x\nnote f inbox a\nunnoted f inbox\n",
-            "ok 1\nno 5 NoSuchFunction\nno 5 NoSuchFunction\n",
-        ),
-    ];
-    expect(&rt, b"", &cases)
-}
-
-#[test]
 fn names_have_these_lengths_at_most(rt: HostRuntime) -> Result<(), Fail> {
     let cases = [
         ("blob inbox ", 1024, " x\n", "ok 1\n"),
@@ -209,16 +192,11 @@ fn blobs_and_leases_leave_these_five_entries(rt: HostRuntime) -> Result<(), Fail
 }
 
 #[test]
-fn entries_about_functions_and_readings_are_refused(rt: HostRuntime) -> Result<(), Fail> {
-    let cases: [(u8, &[u8]); 4] = [
+fn entries_that_change_nothing_are_refused(rt: HostRuntime) -> Result<(), Fail> {
+    let cases: [(u8, &[u8]); 3] = [
         (
             0x1C,
             b"\0\0\0\0\0\0\0\0\x09\0\0\0\x01f\0\0\0\x05inbox\0\0\0\x01a",
-        ),
-        (
-            0x37,
-            b"\0\0\0\0\0\0\0\0\x0D\0\0\0\x01f\x02\0\0\0\0\0\0\0\x10\0\0\0\0\0\0\0\x08\0\0\0\0\0\0\0\x05\
-              \0\0\0\0\0\0\0\0\0\0\0\0\0\0\0\0",
         ),
         (0x17, b"\0\0\0\0\0\0\0\0\x16\0\0\0\x05inbox\0\0\0\x01a"),
         (0x17, b"\0\0\0\0\0\0\0\0\x18\0\0\0\x01f\0\0\0\x05inbox"),

@@ -1,5 +1,4 @@
-use Rattle.std.proofs.Common.{rules}
-use Rattle.fh_script.proofs.Crashes.{stays_told}
+use Rattle.std.proofs.Common.{arith, rules}
 use Rattle.fh_script.proofs.Turning.{counts_on}
 use Rattle.fh_script.proofs.running.answer_lines.Goals as goal
 
@@ -7,7 +6,7 @@ pub loop-end-preserved : goal.loop-end-preserved
 loop-end-preserved g c = record {
   on = λ was first it. c.in-None.ensures.goes was first (c.loop-end.invariant.on was first it);
   counts = counts_on c.loop-end.invariant.counts c.in-None.ensures.counts;
-  told = stays_told _ _ _ c.loop-end.invariant.told c.in-None.ensures.told;
+  told = grind arith;
   holds = search rules;
   same = search rules;
 }
