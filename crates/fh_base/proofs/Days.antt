@@ -24,7 +24,12 @@ same_month n c is within = record {
   year = is.year;
   month = is.month;
   day = (omega arith, omega arith);
-  numbered = omega (arith, signed_arith, is.numbered, days_from_civil-day (pos c.year) c.month (c.day + 1) c.day (omega arith) is.day.0);
+  numbered = omega (
+    arith,
+    signed_arith,
+    is.numbered,
+    days_from_civil-day (pos c.year) c.month (c.day + 1) c.day (omega arith) is.day.0,
+  );
 }
 
 next_month : (n : ℕ) (c : Civil) → IsDay n c → c.day ≡ days_in_month (pos c.year) c.month → suc c.month ≤ 12
@@ -33,7 +38,12 @@ next_month n c is last within = record {
   year = is.year;
   month = (omega arith, omega arith);
   day = (omega arith, omega (arith, days_in_month_bounds (pos c.year) (c.month + 1)));
-  numbered = omega (arith, signed_arith, is.numbered, days_from_civil-next_month (pos c.year) c.month c.day is.month.0 last);
+  numbered = omega (
+    arith,
+    signed_arith,
+    is.numbered,
+    days_from_civil-next_month (pos c.year) c.month c.day is.month.0 last,
+  );
 }
 
 next_year : (n : ℕ) (c : Civil) → IsDay n c → c.day ≡ days_in_month (pos c.year) c.month → c.month ≡ 12
@@ -45,7 +55,13 @@ next_year n c is last december =
       year = omega (arith, is.year);
       month = (omega arith, omega arith);
       day = (omega arith, omega (arith, days_in_month_bounds (pos (c.year + 1)) 1));
-      numbered = omega (arith, signed_arith, counted, days_from_civil-next_year (pos c.year) (pos (c.year + 1)) (omega (arith, signed_arith)) (omega (arith, signed_arith)));
+      numbered = omega (
+        arith,
+        signed_arith,
+        counted,
+        days_from_civil-next_year (pos c.year) (pos (c.year + 1))
+            (omega (arith, signed_arith)) (omega (arith, signed_arith)),
+      );
     }
 
 after : (n : ℕ) (c : Civil) → IsDay n c → IsDay (suc n) (day_after c)
@@ -80,8 +96,23 @@ date_is n d numbered =
     let c = date_on n in
     let is = is_day n in
     let year_in : IsYear (pos c.year) = by_lt_z d.year (pos c.year)
-    (λ later. absurd (omega (arith, signed_arith, days_from_civil-day_count, numbered, is.numbered, day_count-lt_year d.year d.month d.day (pos c.year) c.month c.day (civil d) is.day.0 later)))
+    (λ later. absurd (omega (
+      arith,
+      signed_arith,
+      days_from_civil-day_count,
+      numbered,
+      is.numbered,
+      day_count-lt_year d.year d.month d.day (pos c.year) c.month c.day (civil d) is.day.0 later,
+    )))
     (λ not_later. omega (arith, signed_arith, not_later, d.year_in, is.year)) in
-    let own : Date = record { year = pos c.year; month = c.month; day = c.day; year_in = year_in; month_in = is.month; day_in = is.day } in
+    let own : Date = record {
+      year = pos c.year;
+      month = c.month;
+      day = c.day;
+      year_in = year_in;
+      month_in =
+          is.month;
+      day_in = is.day;
+    } in
     let same = epoch_day_injective d own (numbered ∙ sym is.numbered) in
     record { year = same.0; month = same.1; day = same.2 }

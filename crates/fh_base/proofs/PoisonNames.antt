@@ -49,7 +49,8 @@ and_false a b p = rw p refl
 joined : (text : List ℕ) → 0 < length text → is_dash (get_or text (length text - 1) 0) ≡ false
     → has_two_dashes_together text ≡ false → has_two_dashes_together (text ++ poison_ending) ≡ false
 joined [] some last none = absurd (omega arith)
-joined (c ∷ []) some last none = neither_both (is_dash c && begins_with_dash poison_ending) (has_two_dashes_together poison_ending) (and_false (is_dash c) true last) refl
+joined (c ∷ []) some last none = neither_both (is_dash c && begins_with_dash poison_ending)
+    (has_two_dashes_together poison_ending) (and_false (is_dash c) true last) refl
 joined (c ∷ d ∷ rest) some last none =
     let parts = neither (is_dash c && is_dash d) (has_two_dashes_together (d ∷ rest)) none in
     let before : length (c ∷ d ∷ rest) - 1 ≡ suc (length (d ∷ rest) - 1) = omega arith in
@@ -59,31 +60,48 @@ joined (c ∷ d ∷ rest) some last none =
     neither_both (is_dash c && is_dash d) (has_two_dashes_together ((d ∷ rest) ++ poison_ending)) parts.0
     (joined (d ∷ rest) there (ap is_dash (sym same) ∙ last) parts.1)
 
-pub is_name : (text : List ℕ) → is_queue_name text ≡ true → length text ≤ 56 → is_queue_name (text ++ poison_ending) ≡ true
+pub is_name : (text : List ℕ) → is_queue_name text ≡ true → length text ≤ 56
+    → is_queue_name (text ++ poison_ending) ≡ true
 is_name text name short =
-    let abc = first_true (has_queue_length text && list_all (λ c. is_letter_or_digit c || is_dash c) text && has_firm_ends text) (not (has_two_dashes_together text)) name in
-    let ab = first_true (has_queue_length text && list_all (λ c. is_letter_or_digit c || is_dash c) text) (has_firm_ends text) abc in
-    let sized : has_queue_length text ≡ true = first_true (has_queue_length text) (list_all (λ c. is_letter_or_digit c || is_dash c) text) ab in
-    let characters : list_all (λ c. is_letter_or_digit c || is_dash c) text ≡ true = second_true (has_queue_length text) (list_all (λ c. is_letter_or_digit c || is_dash c) text) ab in
-    let firm : has_firm_ends text ≡ true = second_true (has_queue_length text && list_all (λ c. is_letter_or_digit c || is_dash c) text) (has_firm_ends text) abc in
-    let none : has_two_dashes_together text ≡ false = not_true (has_two_dashes_together text) (second_true (has_queue_length text && list_all (λ c. is_letter_or_digit c || is_dash c) text && has_firm_ends text) (not (has_two_dashes_together text)) name) in
-    let least : 3 ≤ length text = leb-true 3 (length text) (first_true (leb 3 (length text)) (leb (length text) 63) sized) in
+    let abc = first_true (has_queue_length text && list_all (λ c. is_letter_or_digit c || is_dash c) text
+    && has_firm_ends text) (not (has_two_dashes_together text)) name in
+    let ab = first_true (has_queue_length text && list_all (λ c. is_letter_or_digit c || is_dash c) text)
+    (has_firm_ends text) abc in
+    let sized : has_queue_length text ≡ true = first_true (has_queue_length text)
+    (list_all (λ c. is_letter_or_digit c || is_dash c) text) ab in
+    let characters : list_all (λ c. is_letter_or_digit c || is_dash c) text ≡ true =
+    second_true (has_queue_length text) (list_all (λ c. is_letter_or_digit c || is_dash c) text) ab in
+    let firm : has_firm_ends text ≡ true = second_true
+    (has_queue_length text && list_all (λ c. is_letter_or_digit c || is_dash c) text) (has_firm_ends text) abc in
+    let none : has_two_dashes_together text ≡ false = not_true (has_two_dashes_together text)
+    (second_true (has_queue_length text && list_all (λ c. is_letter_or_digit c || is_dash c) text
+    && has_firm_ends text) (not (has_two_dashes_together text)) name) in
+    let least : 3 ≤ length text = leb-true 3 (length text)
+    (first_true (leb 3 (length text)) (leb (length text) 63) sized) in
     let there : 0 < length text = omega arith in
-    let firm-first : is_letter_or_digit (get_or text 0 0) ≡ true = first_true (is_letter_or_digit (get_or text 0 0)) (is_letter_or_digit (get_or text (length text - 1) 0)) firm in
-    let firm-last : is_letter_or_digit (get_or text (length text - 1) 0) ≡ true = second_true (is_letter_or_digit (get_or text 0 0)) (is_letter_or_digit (get_or text (length text - 1) 0)) firm in
+    let firm-first : is_letter_or_digit (get_or text 0 0) ≡ true =
+    first_true (is_letter_or_digit (get_or text 0 0)) (is_letter_or_digit (get_or text (length text - 1) 0)) firm in
+    let firm-last : is_letter_or_digit (get_or text (length text - 1) 0) ≡ true =
+    second_true (is_letter_or_digit (get_or text 0 0)) (is_letter_or_digit (get_or text (length text - 1) 0))
+    firm in
     let long : length (text ++ poison_ending) ≡ length text + 7 = length-append text poison_ending in
     let new-least : 3 ≤ length (text ++ poison_ending) = omega arith in
     let new-most : length (text ++ poison_ending) ≤ 63 = omega arith in
     let new-sized : has_queue_length (text ++ poison_ending) ≡ true
-    = both_true (leb 3 (length (text ++ poison_ending))) (leb (length (text ++ poison_ending)) 63) (le-leb 3 (length (text ++ poison_ending)) new-least) (le-leb (length (text ++ poison_ending)) 63 new-most) in
+    = both_true (leb 3 (length (text ++ poison_ending))) (leb (length (text ++ poison_ending)) 63)
+    (le-leb 3 (length (text ++ poison_ending)) new-least) (le-leb (length (text ++ poison_ending)) 63 new-most) in
     let new-characters : list_all (λ c. is_letter_or_digit c || is_dash c) (text ++ poison_ending) ≡ true
-    = list_all-append (λ (c : ℕ). is_letter_or_digit c || is_dash c) text poison_ending ∙ both_true (list_all (λ c. is_letter_or_digit c || is_dash c) text) true characters refl in
-    let same-first : get_or (text ++ poison_ending) 0 0 ≡ get_or text 0 0 = get_or_append_left text poison_ending 0 0 there in
+    = list_all-append (λ (c : ℕ). is_letter_or_digit c || is_dash c) text poison_ending
+    ∙ both_true (list_all (λ c. is_letter_or_digit c || is_dash c) text) true characters refl in
+    let same-first : get_or (text ++ poison_ending) 0 0 ≡ get_or text 0 0 =
+    get_or_append_left text poison_ending 0 0 there in
     let last-at : length (text ++ poison_ending) - 1 ≡ length text + 6 = omega arith in
     let same-last : get_or (text ++ poison_ending) (length (text ++ poison_ending) - 1) 0 ≡ 110
     = ap (λ (i : ℕ). get_or (text ++ poison_ending) i 0) last-at ∙ get_or-append-add text poison_ending 6 0 in
     let new-firm : has_firm_ends (text ++ poison_ending) ≡ true
-    = both_true (is_letter_or_digit (get_or (text ++ poison_ending) 0 0)) (is_letter_or_digit (get_or (text ++ poison_ending) (length (text ++ poison_ending) - 1) 0)) (ap is_letter_or_digit same-first ∙ firm-first) (ap is_letter_or_digit same-last) in
+    = both_true (is_letter_or_digit (get_or (text ++ poison_ending) 0 0))
+    (is_letter_or_digit (get_or (text ++ poison_ending) (length (text ++ poison_ending) - 1) 0))
+    (ap is_letter_or_digit same-first ∙ firm-first) (ap is_letter_or_digit same-last) in
     let new-none : has_two_dashes_together (text ++ poison_ending) ≡ false
     = joined text there (firm_is_no_dash (get_or text (length text - 1) 0) firm-last) none in
     both_true _ _ (both_true _ _ (both_true _ _ new-sized new-characters) new-firm) (ap not new-none)
@@ -93,13 +111,17 @@ pub put_in : (name ending zeros first second : List ℕ) → first ≡ take 0 ze
     → second ≡ take (length name) first ++ (ending ++ drop (length name + length ending) first)
     → take (length name + length ending) second ≡ name ++ ending
 put_in name ending zeros first second e f =
-    let front : take (length name) first ≡ name = ap (take (length name)) e ∙ take_at name (drop (0 + length name) zeros) (length name) refl in
+    let front : take (length name) first ≡ name = ap (take (length name)) e
+    ∙ take_at name (drop (0 + length name) zeros) (length name) refl in
     let behind = drop (length name + length ending) first in
-    let whole : second ≡ (name ++ ending) ++ behind = f ∙ ap (λ (t : List ℕ). t ++ (ending ++ behind)) front ∙ sym (append_assoc name ending behind) in
-    ap (take (length name + length ending)) whole ∙ take_at (name ++ ending) behind (length name + length ending) (length-append name ending)
+    let whole : second ≡ (name ++ ending) ++ behind = f ∙ ap (λ (t : List ℕ). t ++ (ending ++ behind)) front
+    ∙ sym (append_assoc name ending behind) in
+    ap (take (length name + length ending)) whole ∙ take_at (name ++ ending) behind (length name + length ending)
+    (length-append name ending)
 
 -- what reading the joined text answers is the poison name
-pub answers : (name text : List ℕ) (result : Option (List ℕ)) → length name ≤ 56 → ends_with eqb name poison_ending ≡ false
+pub answers : (name text : List ℕ) (result : Option (List ℕ)) → length name ≤ 56
+    → ends_with eqb name poison_ending ≡ false
     → is_queue_name name ≡ true → text ≡ name ++ poison_ending
     → MatchOption result (is_queue_name text ≡ false) (λ made. (is_queue_name text ≡ true) × (made ≡ text))
     → result ≡ poison_name name

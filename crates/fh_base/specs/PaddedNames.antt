@@ -13,7 +13,8 @@ pub record IsPadded (width : ℕ) (is_name : List ℕ → Bool) (bytes : List �
   pub name : is_name (take size bytes) ≡ true
   pub zeros : drop size bytes ≡ replicate (width - size) 0
 
-pub length-name : (width size : ℕ) (bytes : List ℕ) → size ≤ width → length bytes ≡ width → length (take size bytes) ≡ size
+pub length-name : (width size : ℕ) (bytes : List ℕ) → size ≤ width → length bytes ≡ width
+    → length (take size bytes) ≡ size
 length-name width size bytes short sized = omega (arith, length-take size bytes)
 
 pub padding-name : (width size : ℕ) (bytes : List ℕ) → size ≤ width → length bytes ≡ width

@@ -22,7 +22,8 @@ concludes was now line before after (Err failed) writes cause = record {
 
 pub returns-clause-written : goal.returns-clause-written
 returns-clause-written g c =
-    subst (λ (line : List ℕ). Concludes (g.O.Sink.written c.args.sink.now) (g.O.Sink.written c.write_all-written.new.sink) line
+    subst (λ (line : List ℕ). Concludes (g.O.Sink.written c.args.sink.now)
+    (g.O.Sink.written c.write_all-written.new.sink) line
     (g.O.Sink.write_faults c.args.sink.now) (g.O.Sink.write_faults c.write_all-written.new.sink))
     c.as_bytes.ensures.value
     (concludes _ _ _ _ _ c.write_all-written.result c.write_all-written.ensures.written c.write_all-written.ensures.cause)

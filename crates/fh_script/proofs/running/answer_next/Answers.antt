@@ -23,7 +23,8 @@ pub returns-in-Err-write_all-clause-goes : goal.returns-in-Err-write_all-clause-
 returns-in-Err-write_all-clause-goes g c = λ was first it.
     let writes = c.in-Err-write_all.ensures.written in
     cut_off it c.read_line.new.source c.answer.new.self c.as_slice-line.result.now
-    (rw c.as_slice-line.ensures.value (rw c.in-Ok-true.field-0-test at c.in-Ok-true.ensures.read)) c.answer.ensures.any_moment
+    (rw c.as_slice-line.ensures.value (rw c.in-Ok-true.field-0-test at c.in-Ok-true.ensures.read))
+    c.answer.ensures.any_moment
     c.as_bytes.result.now (rw c.as_bytes.ensures.value c.in-Ok.ensures.done) _ writes.0 writes.1 writes.2
 
 pub returns-then-not-ends_with-clause-goes : goal.returns-then-not-ends_with-clause-goes

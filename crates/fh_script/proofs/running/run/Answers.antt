@@ -22,7 +22,8 @@ returns-clause-reason g c =
     (search rules)
     (c.answer_lines-end.ensures.ends was first
     (begins g.S.Source g.O.Sink c.args.source.now c.args.sink.now first c.over-answerer.result over.now
-    (over.holds (c.in-Ok.ensures.stands (entry_of []))) (rw over.state c.in-Ok.ensures.faithful) (rw over.state c.in-Ok.ensures.stood)
+    (over.holds (c.in-Ok.ensures.stands (entry_of []))) (rw over.state c.in-Ok.ensures.faithful)
+    (rw over.state c.in-Ok.ensures.stood)
     (rw over.disk c.prepare.ensures.told)
     (rw (over.state, over.disk) (c.prepare.ensures.same_history c.in-Ok.state.history c.in-Ok.ensures.stood))))
 
