@@ -9,6 +9,8 @@ use Rattle.fh_dispatch.specs.declared.ask.WorkAsk.TheVariants as asks
 pub data Ask : Type 0 where
   Configure : List ℕ → FunctionSettings → Ask
   Ready : ℕ → TimerRun → Ask
+  Session : Ask
+  Fetch : List ℕ → Ask
   Nothing : Ask
 
 -- the settings that the ask gives have good masks
@@ -19,4 +21,6 @@ GivesGoodMasks ask = ⊤
 abbrev pub ask_of : WorkAsk → Ask
 ask_of (asks.Configure function settings) = Configure function.now settings.now
 ask_of (asks.Ready function run) = Ready function run
+ask_of asks.Session = Session
+ask_of (asks.Fetch function) = Fetch function.now
 ask_of asks.Nothing = Nothing

@@ -1,9 +1,8 @@
 -- Changes of the work, planned and staged.
-use Rattle.std.specs.Prelude.{ℕ, ◌<◌, ◌≤◌, ◌^◌, List, length}
+use Rattle.std.specs.Prelude.{ℕ, ◌<◌, ◌≤◌, ◌^◌, Bool, if◌then◌else◌, List, length}
 use Rattle.fh_event.specs.Judging.{Quiets, Makes}
 use Rattle.fh_dispatch.specs.declared.act.Act.{Act}
 use Rattle.fh_dispatch.specs.declared.done.WorkDone.{WorkDone}
-use Rattle.fh_dispatch.specs.declared.done.WorkDone.TheVariants.{Same}
 use Rattle.fh_dispatch.specs.Part.{WorkPart}
 use Rattle.fh_dispatch.specs.Acts.{by_acts}
 use Rattle.fh_dispatch.specs.Outcome.{Outcome}
@@ -14,8 +13,9 @@ pub record WorkState : Type 0 where
   pub room : ℕ
   pub job_room : ℕ
 
--- the acts of a change, and its answer
+-- the acts of a change, and its answer; a quiet one changes nothing
 pub record Change : Type 0 where
+  pub quiet : Bool
   pub acts : List Act
   pub done : WorkDone
 
@@ -23,21 +23,17 @@ pub record Staged : Type 0 where
   pub acts : List Act
   pub done : WorkDone
 
--- what a change comes to: equal settings are quiet
-abbrev pub judged : WorkPart → List Act → WorkDone → Outcome
-judged part acts Same = Quiets Same
-judged part acts answer = Makes (by_acts part acts) answer
-
 abbrev pub planned : WorkPart → Change → Outcome
-planned part change = judged part change.acts change.done
+planned part change =
+    if change.quiet then Quiets change.done else Makes (by_acts part change.acts) change.done
 
 -- what settling a staged change makes
 abbrev pub made : WorkState → Staged → WorkPart × WorkDone
 made state staged = (by_acts state.part staged.acts, staged.done)
 
--- the counter is far from its end
+-- the counters are far from their ends
 abbrev pub HasNumbers : WorkPart → Type 0
-HasNumbers part = part.next_function < 2 ^ 63
+HasNumbers part = (part.next_function < 2 ^ 63) × (part.session < 2 ^ 63)
 
 -- no change is staged: the work keeps nothing of one
 abbrev pub IsIdle : WorkState → Type 0

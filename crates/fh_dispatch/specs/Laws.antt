@@ -1,22 +1,26 @@
 -- What holds of each ask that changes something.
-use Rattle.std.specs.Prelude.{◌≡◌, ⊤, ℕ, ◌+◌, ◌<◌, ◌≤◌, ◌==◌, Bool, true, false, if◌then◌else◌, ◌↔◌, ◌⊎◌, List, [], ◌∷◌, ◌++◌, Option, Some, None, option_map, IfSome}
+use Rattle.std.specs.Prelude.{◌≡◌, ⊤, ⊥, ℕ, ◌+◌, ◌<◌, ◌≤◌, ◌==◌, Bool, true, false, if◌then◌else◌, ◌↔◌, ◌⊎◌, List, [], ◌∷◌, ◌++◌, map, Option, Some, None, option_map, IfSome}
 use Rattle.std.specs.Str.{bytes_eq}
 use Rattle.fh_event.specs.declared.settings.FunctionSettings.{FunctionSettings}
 use Rattle.fh_event.specs.declared.settings.FunctionSettings.TheVariants.{Timer}
+use Rattle.fh_event.specs.declared.reply.FetchedJob.{FetchedJob}
+use Rattle.fh_event.specs.declared.reply.Reply.TheVariants.{SessionBegun, Fetched}
 use Rattle.fh_event.specs.Judging.{Makes}
 use Rattle.fh_ncrontab.specs.Schedule.{are_masks}
 use Rattle.fh_queues.specs.Asks as queues
-use Rattle.fh_queues.specs.Part.{QueuePart}
 use Rattle.fh_timers.specs.declared.ask.TimerAsk.TheVariants.{Remove}
 use Rattle.fh_dispatch.specs.declared.done.WorkDone.{WorkDone}
 use Rattle.fh_dispatch.specs.declared.done.WorkDone.TheVariants as done
-use Rattle.fh_dispatch.specs.Ready.{jobs_of, in_work, is_busy}
-use Rattle.fh_dispatch.specs.Part.{WorkPart, function_of}
+use Rattle.fh_dispatch.specs.declared.ready.Job.TheVariants.{Message, Timer as OfTimer}
+use Rattle.fh_dispatch.specs.declared.ready.ReadyJob.{ReadyJob}
+use Rattle.fh_dispatch.specs.declared.trigger.Trigger.{Trigger}
+use Rattle.fh_dispatch.specs.Ready.{jobs_of, in_work, is_busy, runs_in}
+use Rattle.fh_dispatch.specs.Part.{WorkPart, Others, function_of, number_or}
 use Rattle.fh_dispatch.specs.declared.timer.Timer.{Timer as FunctionTimer}
 use Rattle.fh_dispatch.specs.Settings.{same_settings, has_other_trigger}
-use Rattle.fh_dispatch.specs.Asks.{Ask, Configure, Ready, Nothing}
-use Rattle.fh_dispatch.specs.Outcome.{number_or, configured, outcome}
-use Rattle.fh_dispatch.specs.Queues.{asks_queues}
+use Rattle.fh_dispatch.specs.Asks.{Ask, Configure, Ready, Session, Fetch, Nothing}
+use Rattle.fh_dispatch.specs.Outcome.{configured, outcome}
+use Rattle.fh_dispatch.specs.Queues.{trigger_of, batch_of, asks_queues}
 use Rattle.fh_dispatch.specs.Timers.{timer_of, asks_timers}
 
 -- the number of the function of this name
@@ -42,8 +46,8 @@ pub record IsWhole (part : WorkPart) : Type 0 where
 -- what holds of each ask that changes a whole part, by the part before, the moment, the part after and the answer
 abbrev pub OfEachAsk : (WorkPart → ℕ → Ask → WorkPart → WorkDone → Type 0) → Type 0
 OfEachAsk Holds =
-    (part : WorkPart) (ask : Ask) (m : ℕ) (after : WorkPart) (answer : WorkDone)
-    → IsWhole part → outcome part ask m ≡ Makes after answer → Holds part m ask after answer
+    (part : WorkPart) (others : Others) (ask : Ask) (m : ℕ) (after : WorkPart) (answer : WorkDone)
+    → IsWhole part → outcome part others ask m ≡ Makes after answer → Holds part m ask after answer
 
 abbrev pub StaysWhole : WorkPart → ℕ → Ask → WorkPart → WorkDone → Type 0
 StaysWhole part m ask after answer = IsWhole after
@@ -74,8 +78,8 @@ abbrev pub IsAsConfigured : WorkPart → ℕ → Ask → WorkPart → WorkDone �
 IsAsConfigured part m (Configure name settings) after (done.Configured number) =
     function_of name after.functions ≡ Some (configured number name settings)
 IsAsConfigured part m (Configure name settings) after answer = ⊥
-IsAsConfigured part m (Ready function run) after answer = after.functions ≡ part.functions
 IsAsConfigured part m Nothing after answer = after ≡ part
+IsAsConfigured part m ask after answer = after.functions ≡ part.functions
 
 -- a function that the ask doesn't name stays as it is
 abbrev pub KeepsUnnamed : WorkPart → ℕ → Ask → WorkPart → WorkDone → Type 0
@@ -86,20 +90,37 @@ KeepsUnnamed part m ask after answer =
 abbrev pub number_for : WorkPart → List ℕ → ℕ
 number_for part name = number_or part.next_function (function_of name part.functions)
 
--- a run that is made ready is the last of its function's jobs; a function that is configured keeps its jobs, and has
--- none where it gets another trigger
+-- the messages that an answer tells as fetched
+abbrev pub fetched_in : WorkDone → List FetchedJob
+fetched_in (done.Told (Fetched jobs)) = jobs
+fetched_in answer = []
+
+-- and the jobs that they are
+abbrev pub jobs_told : ℕ → WorkDone → List ReadyJob
+jobs_told function answer =
+    map (λ told. record { function = function; job = Message told.number told.receipt }) (fetched_in answer)
+
+-- a run that is made ready is the last of its function's jobs, and messages that are fetched are the last ones, as they
+-- are told; a function that is configured keeps its jobs, and has none where it gets another trigger; a session begins
+-- without jobs
 abbrev pub HasJobsAsAsked : WorkPart → ℕ → Ask → WorkPart → WorkDone → Type 0
 HasJobsAsAsked part m (Configure name settings) after answer =
     jobs_of (number_for part name) after.ready
     ≡ (if has_other_trigger settings (function_of name part.functions) then [] else jobs_of (number_for part name) part.ready)
 HasJobsAsAsked part m (Ready function run) after answer =
-    jobs_of function after.ready ≡ jobs_of function part.ready ++ record { function = function; run = run } ∷ []
+    jobs_of function after.ready ≡ jobs_of function part.ready ++ record { function = function; job = OfTimer run } ∷ []
+HasJobsAsAsked part m Session after answer = (after.ready ≡ []) × (after.session ≡ part.session + 1)
+HasJobsAsAsked part m (Fetch name) after answer =
+    jobs_of (number_for part name) after.ready
+    ≡ jobs_of (number_for part name) part.ready ++ jobs_told (number_for part name) answer
 HasJobsAsAsked part m Nothing after answer = after ≡ part
 
--- the ask is about the function of this number
+-- the ask is about the function of this number; a session is about all
 abbrev pub is_about : WorkPart → ℕ → Ask → Bool
 is_about part f (Configure name settings) = number_for part name == f
 is_about part f (Ready function run) = function == f
+is_about part f Session = true
+is_about part f (Fetch name) = number_for part name == f
 is_about part f Nothing = false
 
 -- the jobs of a function that the ask isn't about stay as they are
@@ -112,40 +133,64 @@ abbrev pub FindsNoJob : WorkPart → Ask → Type 0
 FindsNoJob part (Ready function run) = is_busy function part.ready ≡ false
 FindsNoJob part ask = ⊤
 
--- then a function that had one job in work at most has no more
-abbrev pub KeepsOneJob : WorkPart → ℕ → Ask → WorkPart → WorkDone → Type 0
-KeepsOneJob part m ask after answer =
-    FindsNoJob part ask → (f : ℕ) → in_work f part.ready ≤ 1 → in_work f after.ready ≤ 1
+-- then a function that had one run in work at most has no more
+abbrev pub KeepsOneRun : WorkPart → ℕ → Ask → WorkPart → WorkDone → Type 0
+KeepsOneRun part m ask after answer =
+    FindsNoJob part ask → (f : ℕ) → runs_in f part.ready ≤ 1 → runs_in f after.ready ≤ 1
+
+-- the ask may bring the function of this number jobs
+abbrev pub brings_jobs : WorkPart → ℕ → Ask → Bool
+brings_jobs part f (Ready function run) = function == f
+brings_jobs part f (Fetch name) = number_for part name == f
+brings_jobs part f ask = false
+
+-- a function that works on messages has no more of them in work than a batch beside its threshold
+abbrev pub IsWithin : WorkPart → Option Trigger → Type 0
+IsWithin after None = ⊥
+IsWithin after (Some trigger) = in_work trigger.function after.ready ≤ trigger.batch + trigger.threshold
+
+-- so it is behind each fetch, and no other ask but one for a run brings more into work
+pub record KeepsToTheBound (part : WorkPart) (m : ℕ) (ask : Ask) (after : WorkPart) (answer : WorkDone) : Type 0 where
+  pub fetch : (name : List ℕ) → ask ≡ Fetch name → IsWithin after (trigger_of name part.functions)
+  pub others : (f : ℕ) → brings_jobs part f ask ≡ false → in_work f after.ready ≤ in_work f part.ready
 
 -- the answer is one to this ask
 abbrev pub answers : Ask → WorkDone → Bool
 answers (Configure name settings) (done.Configured number) = true
 answers (Ready function run) done.Ready = true
+answers Session (done.Told (SessionBegun session)) = true
+answers (Fetch name) (done.Told (Fetched jobs)) = true
 answers Nothing done.Nothing = true
 answers ask answer = false
 
 -- an ask that changes something has its own answer, whatever the part before
 abbrev pub AnswersTheAsk : Type 0
 AnswersTheAsk =
-    (part : WorkPart) (ask : Ask) (m : ℕ) (after : WorkPart) (answer : WorkDone)
-    → outcome part ask m ≡ Makes after answer → answers ask answer ≡ true
+    (part : WorkPart) (others : Others) (ask : Ask) (m : ℕ) (after : WorkPart) (answer : WorkDone)
+    → outcome part others ask m ≡ Makes after answer → answers ask answer ≡ true
 
--- one number is given at most, whatever the part before
+-- one number is given at most, and one session begins, whatever the part before
 abbrev pub MovesNumbers : Type 0
 MovesNumbers =
-    (part : WorkPart) (ask : Ask) (m : ℕ) (after : WorkPart) (answer : WorkDone)
-    → outcome part ask m ≡ Makes after answer → after.next_function ≤ part.next_function + 1
+    (part : WorkPart) (others : Others) (ask : Ask) (m : ℕ) (after : WorkPart) (answer : WorkDone)
+    → outcome part others ask m ≡ Makes after answer
+    → (after.next_function ≤ part.next_function + 1) × (after.session ≤ part.session + 1)
 
 abbrev pub is_configure : Ask → Bool
 is_configure (Configure name settings) = true
 is_configure ask = false
 
--- the queues are asked to make a queue or nothing, and only where a function is configured
-abbrev pub AsksOnlyToMake : Type 0
-AsksOnlyToMake =
-    (part : WorkPart) (kept : QueuePart) (ask : Ask)
-    → (asks_queues part kept ask ≡ None)
-    ⊎ ((queue : List ℕ) × (asks_queues part kept ask ≡ Some (queues.Make queue)) × (is_configure ask ≡ true))
+-- where a function is configured, the queues are asked to make a queue at most, and where it fetches, for its batch
+abbrev pub AsksForQueues : WorkPart → Ask → Option queues.Ask → Type 0
+AsksForQueues part (Configure name settings) asked =
+    (asked ≡ None) ⊎ ((queue : List ℕ) × (asked ≡ Some (queues.Make queue)))
+AsksForQueues part (Fetch name) asked =
+    (asked ≡ None)
+    ⊎ ((trigger : Trigger) × (trigger_of name part.functions ≡ Some trigger) × (asked ≡ Some (batch_of trigger)))
+AsksForQueues part ask asked = asked ≡ None
+
+abbrev pub AsksAsItSays : Type 0
+AsksAsItSays = (part : WorkPart) (others : Others) (ask : Ask) → AsksForQueues part ask (asks_queues part others ask)
 
 -- the timers are asked to remove a row or nothing, and only where a function is configured
 abbrev pub AsksOnlyToRemove : Type 0

@@ -1,6 +1,8 @@
 -- The jobs that are ready: in order of function number, and those of a function in the order in which they came.
-use Rattle.std.specs.Prelude.{ℕ, ◌==◌, nat_le, nat_lt, Bool, not, List, ◌∷◌, ◌++◌, length, filter}
+use Rattle.std.specs.Prelude.{ℕ, ◌==◌, nat_le, nat_lt, Bool, true, false, not, List, ◌∷◌, ◌++◌, length, filter}
 use Rattle.std.specs.List.Sorted.{IsNonDecreasingBy}
+use Rattle.fh_dispatch.specs.declared.ready.Job.{Job}
+use Rattle.fh_dispatch.specs.declared.ready.Job.TheVariants.{Message, Timer}
 use Rattle.fh_dispatch.specs.declared.ready.ReadyJob.{ReadyJob}
 
 -- no job stands before one of a function of a lower number
@@ -18,6 +20,15 @@ in_work function ready = length (jobs_of function ready)
 -- a job of the function is in work
 abbrev pub is_busy : ℕ → List ReadyJob → Bool
 is_busy function ready = not (in_work function ready == 0)
+
+-- a run of a timer, and not a message
+abbrev pub is_run : Job → Bool
+is_run (Message number receipt) = false
+is_run (Timer run) = true
+
+-- how many runs of the function's timer are in work
+abbrev pub runs_in : ℕ → List ReadyJob → ℕ
+runs_in function ready = length (filter (λ job. is_run job.job) (jobs_of function ready))
 
 -- the job behind those that its function has
 abbrev pub with_job : ReadyJob → List ReadyJob → List ReadyJob

@@ -7,10 +7,9 @@ use Rattle.fh_timers.specs.declared.ask.TimerAsk.{TimerAsk}
 use Rattle.fh_timers.specs.declared.ask.TimerAsk.TheVariants.{Remove}
 use Rattle.fh_dispatch.specs.declared.function.Function.{Function}
 use Rattle.fh_dispatch.specs.declared.timer.Timer.{Timer}
-use Rattle.fh_dispatch.specs.Part.{WorkPart, function_of}
+use Rattle.fh_dispatch.specs.Part.{WorkPart, function_of, number_or}
 use Rattle.fh_dispatch.specs.Settings.{has_other_trigger}
 use Rattle.fh_dispatch.specs.Asks.{Ask, Configure}
-use Rattle.fh_dispatch.specs.Outcome.{number_or}
 
 -- the timer of the function of this number, by its settings
 abbrev pub timer_by : ℕ → FunctionSettings → Option Timer

@@ -9,4 +9,6 @@ pub(crate) enum Act {
     AddJob { job: ReadyJob },
     /// The function has no ready job.
     DropJobs { function: u64 },
+    /// The next session begins, without ready jobs.
+    BeginSession,
 }

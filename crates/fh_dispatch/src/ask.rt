@@ -17,6 +17,13 @@ pub enum WorkAsk<'a> {
         function: u64,
         run: TimerRun,
     },
+    /// Begins the next session: all ready jobs go.
+    Session,
+    /// Takes the next messages of a function's queue, which become its ready jobs, unless more jobs of it than its
+    /// threshold are in work.
+    Fetch {
+        function: &'a str,
+    },
     /// Changes nothing: what a command asks that asks something of other stores alone.
     Nothing,
 }

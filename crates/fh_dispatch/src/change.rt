@@ -10,6 +10,7 @@ use std::marker::Model;
 /// A change that was planned. It may be dropped.
 #[derive(Drop)]
 pub struct WorkChange {
+    pub(crate) quiet: bool,
     pub(crate) acts: Vec<Act>,
     pub(crate) done: WorkDone,
 }
@@ -19,7 +20,7 @@ impl Model for WorkChange {
 
     ghost Value = { Change };
 
-    ghost view = { λ c. record { acts = c.acts.items; done = c.done } };
+    ghost view = { λ c. record { quiet = c.quiet; acts = c.acts.items; done = c.done } };
 }
 
 /// What an ask makes of the work, and of the other stores where it asks something of them.
@@ -53,16 +54,13 @@ impl WorkChange {
     ghost use Rattle.fh_dispatch.specs.Acts.{by_acts};
     ghost use Rattle.fh_dispatch.specs.Edits.{planned};
 
-    /// Whether it was accepted and changes nothing: the function has these settings.
+    /// Whether it was accepted and changes nothing.
     pub fn is_quiet(&self) -> bool
         ensures quiet { (part : WorkPart) → result ≡ true → planned part self.now ≡ Quiets self.now.done }
         ensures loud { (part : WorkPart) → result ≡ false
             → planned part self.now ≡ Makes (by_acts part self.now.acts) self.now.done }
     {
-        match self.done {
-            WorkDone::Same => true,
-            WorkDone::Configured { .. } | WorkDone::Ready | WorkDone::Nothing => false,
-        }
+        self.quiet
     }
 
     /// What is answered.

@@ -1,5 +1,7 @@
 // What the work answers.
 
+use fh_event::Reply;
+
 /// What was done.
 #[derive(Drop)]
 pub enum WorkDone {
@@ -9,5 +11,7 @@ pub enum WorkDone {
     Same,
     /// The run is ready.
     Ready,
+    /// The answer to a command about jobs.
+    Told { reply: Reply },
     Nothing,
 }

@@ -16,6 +16,7 @@ mod act;
 mod ask;
 mod change;
 mod done;
+mod fetching;
 mod function;
 mod laws;
 mod note;
@@ -26,6 +27,7 @@ mod rules;
 mod settings;
 mod staging;
 mod timer;
+mod trigger;
 mod work;
 
 pub use ask::WorkAsk;
@@ -40,8 +42,9 @@ pub use laws::{
 };
 pub use note::note_text;
 pub use queues::inner_queue;
-pub use ready::ReadyJob;
+pub use ready::{Job, ReadyJob};
 pub use timer::Timer;
+pub use trigger::Trigger;
 pub use work::Work;
 
 #[cfg(test)]

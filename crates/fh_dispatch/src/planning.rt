@@ -1,14 +1,15 @@
 // What an ask comes to, before anything changes.
-ghost use Rattle.std.specs.Prelude.{◌≡◌, ◌∷◌, [], None, option_copied, IfOk};
+ghost use Rattle.std.specs.Prelude.{◌≡◌, false, ◌∷◌, [], None, option_copied, IfOk};
 ghost use Rattle.fh_queues.specs.Edits as queue_edits;
 ghost use Rattle.fh_timers.specs.Edits as timer_edits;
-ghost use Rattle.fh_dispatch.specs.Part.{function_of};
+ghost use Rattle.fh_dispatch.specs.Part.{function_of, number_or};
 ghost use Rattle.fh_event.specs.Settings.{HasGoodMasks};
 ghost use Rattle.fh_dispatch.specs.Asks.{ask_of, GivesGoodMasks};
 ghost use Rattle.fh_dispatch.specs.Settings.{is_as, has_other_trigger};
 ghost use Rattle.fh_dispatch.specs.declared.act.Act.TheVariants.{Set, AddJob};
 ghost use Rattle.fh_dispatch.specs.declared.done.WorkDone.TheVariants.{Configured, Ready};
-ghost use Rattle.fh_dispatch.specs.Outcome.{number_or, configured, configuring, dropping, made_by, outcome};
+ghost use Rattle.fh_dispatch.specs.declared.ready.Job.TheVariants.{Timer};
+ghost use Rattle.fh_dispatch.specs.Outcome.{configured, configuring, dropping, made_by, outcome};
 ghost use Rattle.fh_dispatch.specs.Queues.{made_where_missing, configuring_queues, asks_queues};
 ghost use Rattle.fh_dispatch.specs.Timers.{removing, configuring_timers, asks_timers};
 ghost use Rattle.fh_dispatch.specs.Edits.{IsIdle, HasNumbers};
@@ -19,7 +20,7 @@ use crate::ask::Asking;
 use crate::queues::queue_of;
 use crate::rules::ranges_rule;
 use crate::settings::{copy_settings, same_settings, same_trigger};
-use crate::{Function, ReadyJob, Work, WorkAsk, WorkChange, WorkDone, WorkPlan};
+use crate::{Function, Job, ReadyJob, Work, WorkAsk, WorkChange, WorkDone, WorkPlan};
 use fh_base::{Moment, NoMemory, QueueName, Text};
 use fh_blobs::Blobs;
 use fh_event::{FunctionSettings, PlanFault};
@@ -47,9 +48,10 @@ impl Work {
         requires queues_idle { queue_edits.IsIdle queues.now }
         requires queues_numbers { queue_edits.HasNumbers queues.now.part }
         requires timers_idle { timer_edits.IsIdle timers.now }
-        ensures work { IsPlanOf self.now.part (outcome self.now.part (ask_of ask.now) m) result }
+        ensures work { IsPlanOf self.now.part
+            (outcome self.now.part (record { queues = queues.now.part }) (ask_of ask.now) m) result }
         ensures queues { IfOk result (λ plan. IsQueuesPlanOf queues.now.part
-            (asks_queues self.now.part queues.now.part (ask_of ask.now)) m plan.queues) }
+            (asks_queues self.now.part (record { queues = queues.now.part }) (ask_of ask.now)) m plan.queues) }
         ensures blobs { IfOk result (λ plan. plan.blobs ≡ None) }
         ensures leases { IfOk result (λ plan. plan.leases ≡ None) }
         ensures timers { IfOk result (λ plan. IsTimersPlanOf timers.now.part
@@ -61,7 +63,9 @@ impl Work {
                 self.plan_configure(alloc, function, settings, queues, timers, m)
             }
             WorkAsk::Ready { function, run } => Ok(alone(make_ready(alloc, *function, *run)?)),
-            WorkAsk::Nothing => Ok(alone(no_change(alloc, WorkDone::Nothing))),
+            WorkAsk::Session => Ok(alone(self.plan_session(alloc)?)),
+            WorkAsk::Fetch { function } => self.plan_fetch(alloc, function, queues, m),
+            WorkAsk::Nothing => Ok(alone(no_acts(alloc, false, WorkDone::Nothing))),
         }
     }
 
@@ -95,7 +99,7 @@ impl Work {
             return Err(PlanFault::Rule(rule));
         }
         if is_as(settings, found) {
-            return Ok(alone(no_change(alloc, WorkDone::Same)));
+            return Ok(alone(no_acts(alloc, true, WorkDone::Same)));
         }
         let other_trigger = has_other_trigger(settings, found);
         let work = set_function(alloc, number, name, settings, other_trigger)?;
@@ -112,7 +116,7 @@ impl Work {
 }
 
 // The plan of a change that asks nothing of the other stores.
-fn alone(work: WorkChange) -> WorkPlan
+pub(crate) fn alone(work: WorkChange) -> WorkPlan
     ensures work { result.work ≡ work }
     ensures queues { result.queues ≡ None }
     ensures blobs { result.blobs ≡ None }
@@ -207,10 +211,11 @@ fn has_other_trigger(settings: &FunctionSettings, found: Option<&Function>) -> b
     }
 }
 
-fn no_change(alloc: Global, done: WorkDone) -> WorkChange
-    ensures { result ≡ record { acts = []; done = done } }
+fn no_acts(alloc: Global, quiet: bool, done: WorkDone) -> WorkChange
+    ensures { result ≡ record { quiet = quiet; acts = []; done = done } }
 {
     WorkChange {
+        quiet,
         acts: Vec::new(alloc),
         done,
     }
@@ -219,14 +224,19 @@ fn no_change(alloc: Global, done: WorkDone) -> WorkChange
 // The change that makes a run of a function ready.
 fn make_ready(alloc: Global, function: u64, run: TimerRun) -> Result<WorkChange, NoMemory>
     ensures { IfOk result (λ change. change ≡ record {
-      acts = AddJob (record { function = function; run = run }) ∷ [];
+      quiet = false;
+      acts = AddJob (record { function = function; job = Timer run }) ∷ [];
       done = Ready;
     }) }
 {
-    let job = ReadyJob { function, run };
+    let job = ReadyJob {
+        function,
+        job: Job::Timer { run },
+    };
     let mut acts = Vec::new(alloc);
     acts.push(Act::AddJob { job })?;
     Ok(WorkChange {
+        quiet: false,
         acts,
         done: WorkDone::Ready,
     })
@@ -242,6 +252,7 @@ fn set_function(
 ) -> Result<WorkChange, NoMemory>
     ensures acts { IfOk result (λ change. change.acts
         ≡ Set (configured number name.now settings.now) ∷ dropping number other_trigger) }
+    ensures loud { IfOk result (λ change. change.quiet ≡ false) }
     ensures done { IfOk result (λ change. change.done ≡ Configured number) }
 {
     let function = Function {
@@ -255,6 +266,7 @@ fn set_function(
         acts.push(Act::DropJobs { function: number })?;
     }
     Ok(WorkChange {
+        quiet: false,
         acts,
         done: WorkDone::Configured { number },
     })

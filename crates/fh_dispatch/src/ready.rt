@@ -7,12 +7,20 @@ use fh_timers::TimerRun;
 use std::alloc::{AllocError, Global};
 use std::marker::Model;
 
+/// What a function is to run for.
+#[derive(Clone, Copy, Debug, PartialEq, Eq)]
+pub enum Job {
+    /// A message that is held with this receipt.
+    Message { number: u64, receipt: u64 },
+    Timer { run: TimerRun },
+}
+
 /// A job of a function that is ready to begin.
 #[derive(Clone, Copy, Debug, PartialEq, Eq)]
 pub struct ReadyJob {
     /// The function's number.
     pub function: u64,
-    pub run: TimerRun,
+    pub job: Job,
 }
 
 /// Ready jobs in order of function number, and those of a function in the order in which they came.
@@ -73,6 +81,14 @@ impl ReadyJobs {
         ensures room { self.old.room ≤ self.new.room + 1 }
     {
         put(&mut self.jobs, job);
+    }
+
+    /// Takes all jobs out. Takes no memory.
+    pub(crate) fn clear(&mut self)
+        ensures jobs { self.new.rows ≡ [] }
+        ensures room { self.old.room ≤ self.new.room }
+    {
+        self.jobs.clear();
     }
 
     /// Takes all jobs of a function out. Takes no memory.

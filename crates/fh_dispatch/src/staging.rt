@@ -18,7 +18,11 @@ impl Work {
         ensures staged { IfOk result (λ staged. IsStaged self.new staged) }
         ensures err { OnErr result (IsIdle self.new) }
     {
-        let WorkChange { acts, done } = change;
+        let WorkChange {
+            quiet: _,
+            acts,
+            done,
+        } = change;
         // Each act adds one function or one job at most.
         self.functions.reserve(acts.len())?;
         self.ready.reserve(acts.len())?;
@@ -52,10 +56,12 @@ impl Work {
         requires room { 1 ≤ self.old.room }
         requires job_room { 1 ≤ self.old.job_room }
         requires numbers { self.old.part.next_function + 1 < 2 ^ 64 }
+        requires sessions { self.old.part.session + 1 < 2 ^ 64 }
         ensures part { self.new.part ≡ acted self.old.part act }
         ensures room { self.old.room ≤ self.new.room + 1 }
         ensures job_room { self.old.job_room ≤ self.new.job_room + 1 }
         ensures numbers { self.new.part.next_function ≤ self.old.part.next_function + 1 }
+        ensures sessions { self.new.part.session ≤ self.old.part.session + 1 }
     {
         match act {
             Act::Set { function } => {
@@ -64,6 +70,10 @@ impl Work {
             }
             Act::AddJob { job } => self.ready.add(job),
             Act::DropJobs { function } => self.ready.drop_of(function),
+            Act::BeginSession => {
+                self.ready.clear();
+                self.session += 1;
+            }
         }
     }
 }

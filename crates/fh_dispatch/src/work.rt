@@ -1,24 +1,29 @@
 // The work, as it is kept, and what is read of it.
-ghost use Rattle.std.specs.Prelude.{◌≡◌, option_copied};
+ghost use Rattle.std.specs.Prelude.{◌≡◌, option_copied, IfOk};
 ghost use Rattle.fh_dispatch.specs.Part.{no_work, function_of};
 ghost use Rattle.fh_dispatch.specs.Ready.{jobs_of, in_work, is_busy};
+ghost use Rattle.fh_dispatch.specs.Queues.{trigger_of};
 ghost use Rattle.fh_dispatch.specs.Timers.{timer_of};
 ghost use Rattle.fh_dispatch.specs.Edits.{IsIdle};
 
 use crate::function::Name;
 use crate::ready::ReadyJobs;
 use crate::timer::timer_by;
-use crate::{Function, ReadyJob, Timer};
+use crate::trigger::trigger_found;
+use crate::{Function, ReadyJob, Timer, Trigger};
+use fh_base::NoMemory;
 use fh_rows::Rows;
 use std::alloc::Global;
 use std::marker::Model;
 
-/// Functions in order of their names, the jobs that are ready, and the number that the next new function gets.
+/// Functions in order of their names, the jobs that are ready, the number that the next new function gets, and how
+/// many sessions have begun.
 #[derive(Drop)]
 pub struct Work {
     pub(crate) functions: Rows<Function>,
     pub(crate) ready: ReadyJobs,
     pub(crate) next_function: u64,
+    pub(crate) session: u64,
 }
 
 impl Model for Work {
@@ -27,7 +32,12 @@ impl Model for Work {
     ghost Value = { WorkState };
 
     ghost view = { λ w. record {
-      part = record { functions = w.functions.rows; ready = w.ready.rows; next_function = w.next_function };
+      part = record {
+        functions = w.functions.rows;
+        ready = w.ready.rows;
+        next_function = w.next_function;
+        session = w.session;
+      };
       room = w.functions.room;
       job_room = w.ready.room;
     } };
@@ -43,6 +53,7 @@ impl Work {
             functions: Rows::new(alloc),
             ready: ReadyJobs::new(alloc),
             next_function: 1,
+            session: 0,
         }
     }
 
@@ -59,6 +70,13 @@ impl Work {
     {
         let function = self.function_of(name)?;
         timer_by(function.number, &function.settings)
+    }
+
+    /// How a function comes to its messages, where it is there and works on messages.
+    pub fn trigger_of(&self, alloc: Global, name: &str) -> Result<Option<Trigger>, NoMemory>
+        ensures { IfOk result (λ trigger. trigger ≡ trigger_of name.now self.now.part.functions) }
+    {
+        trigger_found(alloc, self.function_of(name))
     }
 
     /// The ready jobs of the function of this number, in the order in which they came. Takes no memory.

@@ -1,6 +1,7 @@
 // Changes of the queues, planned and staged.
 use crate::QueueDone;
 use crate::act::Act;
+use fh_event::Item;
 use std::marker::Model;
 
 /// A change that was planned. It may be dropped.
@@ -38,6 +39,7 @@ impl QueueChange {
     ghost use Rattle.fh_queues.specs.Part.{QueuePart};
     ghost use Rattle.fh_queues.specs.Acts.{by_acts};
     ghost use Rattle.fh_queues.specs.Edits.{planned};
+    ghost use Rattle.fh_queues.specs.Tellings.{items_in};
 
     /// Whether it was accepted and changes nothing: the queue is there, or has no message to act on.
     pub fn is_quiet(&self) -> bool
@@ -46,6 +48,16 @@ impl QueueChange {
             → planned part self.now ≡ Makes (by_acts part self.now.acts) self.now.done }
     {
         self.acts.is_empty()
+    }
+
+    /// The messages that are taken, where it takes some.
+    pub fn items(&self) -> &[Item]
+        ensures { result.now ≡ items_in self.now.done }
+    {
+        match &self.done {
+            QueueDone::Taken { items } => items.as_slice(),
+            _ => &[],
+        }
     }
 
     /// What is answered.
