@@ -50,7 +50,9 @@ fn trigger_by(
             ..
         } => Ok(trigger_on(number, queue.as_str(), *batch, *threshold)),
         FunctionSettings::Blob {
-            batch, threshold, ..
+            batch,
+            threshold,
+            ..
         } => Ok(Some(Trigger {
             function: number,
             queue: inner_queue(alloc, number)?,

@@ -10,18 +10,18 @@ use Rattle.fh_queues.specs.Part.{QueuePart}
 use Rattle.fh_queues.specs.Outcome.{outcome}
 use Rattle.fh_queues.specs.Seen.{Stands, seen}
 use Rattle.fh_queues.specs.Whole.{IsWhole}
-use Rattle.fh_queues.specs.Laws.{OfEachAsk, GoesOnAsAnswered, KeepsUntouched, RaisesReceipts, TakesVisible, HasShortTexts, MovesLittle, GivesNumbersInTurn, GivesReceiptsInTurn, answers, AnswersTheAsk}
+use Rattle.fh_queues.specs.Laws.{OfEachAsk, GoesOnAsAnswered, KeepsUntouched, RaisesReceipts, TakesVisible, HasShortTexts, MovesLittle, GivesNumbersInTurn, GivesReceiptsInTurn, answers, AnswersTheAsk, ListsFew, TakesFew}
 use Rattle.fh_queues.specs.Goings.{goes_on}
 use Rattle.fh_queues.proofs.Goings.{goings}
 use Rattle.fh_queues.proofs.Guards.{stays, untouched_stands, raises, rises_by}
-use Rattle.fh_queues.proofs.Numbers.{givings}
+use Rattle.fh_queues.proofs.Numbers.{length-taken_items, givings}
 use Rattle.fh_queues.proofs.Takes.{taken}
 pub use Rattle.fh_queues.proofs.Goings.{row_seen}
 pub use Rattle.fh_queues.proofs.Whole.{Whole-none}
 pub use Rattle.fh_queues.proofs.Fairness.{Whole-outcome}
 pub use Rattle.fh_queues.proofs.Telling.{tells, is_some-item_of}
 pub use Rattle.fh_queues.proofs.Placing.{given_is_born}
-use Rattle.fh_queues.proofs.Ways.{Ways, by_ways}
+use Rattle.fh_queues.proofs.Ways.{Ways, chosen, by_ways}
 
 pub goes_as_answered : OfEachAsk GoesOnAsAnswered
 goes_as_answered part ask m after answer h is n =
@@ -98,3 +98,19 @@ answer_ways part m = record {
 
 pub answers_the_ask : AnswersTheAsk
 answers_the_ask part ask m after answer is = (by_ways _ part m (answer_ways part m) after answer ask is).holds
+
+few_ways : (part : QueuePart) (m : ℕ) → Ways (λ ask acts answer. ListsFew ask answer) part m
+few_ways part m = record {
+  makes = λ queue. tt;
+  puts = λ queue delay ttl text about short. tt;
+  takes = λ queue count seconds less.
+      let listed = length-taken_items part.next_receipt (chosen part m queue count) in
+      omega (arith, listed, length-take count (visible queue m part.rows));
+  updates = λ queue number receipt seconds text short named. tt;
+  deletes = λ queue number receipt named. tt;
+  clears = λ queue. tt;
+  sweeps = tt;
+}
+
+pub takes_few : TakesFew
+takes_few part ask m after answer is = (by_ways _ part m (few_ways part m) after answer ask is).holds

@@ -46,7 +46,7 @@ counts_held until (item ∷ items) part =
     let rest = counts_held until items (acted part (hold until item)) in
     record { number = omega (arith, one.number, rest.number); receipt = omega (arith, one.receipt, rest.receipt) }
 
-length-taken_items : (receipt : ℕ) (rows : List Message) → length (taken_items receipt rows) ≡ length rows
+pub length-taken_items : (receipt : ℕ) (rows : List Message) → length (taken_items receipt rows) ≡ length rows
 length-taken_items receipt [] = refl
 length-taken_items receipt (row ∷ rows) = ap suc (length-taken_items (receipt + 1) rows)
 

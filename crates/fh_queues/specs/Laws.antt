@@ -16,6 +16,7 @@ use Rattle.fh_queues.specs.Places.{place_of}
 use Rattle.fh_queues.specs.Whole.{IsWhole}
 use Rattle.fh_queues.specs.Receipts.{born, given, listed_item, touches, Rises}
 use Rattle.fh_queues.specs.Goings.{goes_on}
+use Rattle.fh_queues.specs.Tellings.{items_in}
 
 -- what holds of each ask that changes a whole part, by the part before, the moment, the part after and the answer
 abbrev pub OfEachAsk : (QueuePart → ℕ → Ask → QueuePart → QueueDone → Type 0) → Type 0
@@ -106,3 +107,13 @@ abbrev pub AnswersTheAsk : Type 0
 AnswersTheAsk =
     (part : QueuePart) (ask : Ask) (m : ℕ) (after : QueuePart) (answer : QueueDone)
     → outcome part ask m ≡ Makes after answer → answers ask answer ≡ true
+
+-- a take lists no more messages than were asked for
+abbrev pub ListsFew : Ask → QueueDone → Type 0
+ListsFew (Take queue count hold) answer = length (items_in answer) ≤ count
+ListsFew ask answer = ⊤
+
+abbrev pub TakesFew : Type 0
+TakesFew =
+    (part : QueuePart) (ask : Ask) (m : ℕ) (after : QueuePart) (answer : QueueDone)
+    → outcome part ask m ≡ Makes after answer → ListsFew ask answer

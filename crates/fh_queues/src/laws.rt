@@ -9,7 +9,7 @@ ghost use Rattle.fh_queues.specs.Part.{QueuePart, no_queues};
 ghost use Rattle.fh_queues.specs.Outcome.{outcome};
 ghost use Rattle.fh_queues.specs.Whole.{IsWhole};
 ghost use Rattle.fh_queues.specs.Tellings.{TellsOfMessages};
-ghost use Rattle.fh_queues.specs.Laws.{OfEachAsk, StaysWhole, MovesLittle, GoesOnAsAnswered, GivesNumbersInTurn, GivesReceiptsInTurn, KeepsUntouched, RaisesReceipts, TakesVisible, HasShortTexts, IsKnownByNumber, ListsInOrder, AnswersTheAsk};
+ghost use Rattle.fh_queues.specs.Laws.{OfEachAsk, StaysWhole, MovesLittle, GoesOnAsAnswered, GivesNumbersInTurn, GivesReceiptsInTurn, KeepsUntouched, RaisesReceipts, TakesVisible, HasShortTexts, IsKnownByNumber, ListsInOrder, AnswersTheAsk, TakesFew};
 
 /// Rows stand in order of number, a count is at most its receipt, and a message whose number was given
 /// has a row or has ended, and not both.
@@ -54,6 +54,11 @@ pub fn receipts_only_rise()
 /// What a take lists was visible in its queue, and has its text and one more count.
 pub fn takes_list_visible_messages()
     ensures { OfEachAsk TakesVisible }
+{}
+
+/// A take lists no more messages than were asked for.
+pub fn takes_list_few()
+    ensures { TakesFew }
 {}
 
 /// What a peek lists stands in order of number.

@@ -39,7 +39,8 @@ pub use laws::{
     asks_have_their_answers, counters_move_little, messages_are_as_told,
     messages_go_on_as_answered, numbers_are_given_in_turn, parts_stay_whole,
     peeks_list_in_order_of_number, places_are_known, receipts_are_given_in_turn,
-    receipts_guard_messages, receipts_only_rise, takes_list_visible_messages, texts_are_short,
+    receipts_guard_messages, receipts_only_rise, takes_list_few, takes_list_visible_messages,
+    texts_are_short,
 };
 pub use queues::Queues;
 pub use row::{About, Message, Subject};
