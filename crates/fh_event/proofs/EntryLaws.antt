@@ -7,7 +7,7 @@ use Rattle.std.proofs.lemmas.Bool.{eqb-true, ltb-false, le-ltb}
 use Rattle.std.proofs.lemmas.List.{append-nil, nil_from_length}
 use Rattle.fh_base.specs.Moments.{greatest_moment}
 use Rattle.fh_event.specs.declared.command.Command.{Command}
-use Rattle.fh_event.specs.declared.command.Command.TheVariants.{MakeQueue, Put, Take, Update, Delete, Clear, PutBlob, DeleteBlob, Note, Acquire, RenewLease, ReleaseLease, Configure, Arm, Tick, Peek, GetBlob, Locate, Unnoted}
+use Rattle.fh_event.specs.declared.command.Command.TheVariants.{MakeQueue, Put, Take, Update, Delete, Clear, PutBlob, DeleteBlob, Note, Acquire, RenewLease, ReleaseLease, Configure, Session, Arm, Tick, Fetch, Peek, GetBlob, Locate, Unnoted}
 use Rattle.fh_event.specs.declared.faults.EventFault.TheVariants.{BadField, Trailing}
 use Rattle.fh_event.specs.declared.settings.FunctionSettings.{FunctionSettings}
 use Rattle.fh_event.specs.declared.settings.FunctionSettings.TheVariants.{Queue, Blob, Timer}
@@ -16,7 +16,7 @@ use Rattle.fh_event.specs.declared.tables.FieldType.TheVariants.{Number, Words, 
 use Rattle.fh_event.specs.Answers.{◌>>=◌}
 use Rattle.fh_event.specs.Fields.{Field, number, words, maybe_number, maybe_words, masks, flag, number_bytes, text_bytes, spelled, IsText, IsField}
 use Rattle.fh_event.specs.Settings.{Form, queue_form, blob_form, timer_form, form_number, form_of, fields_behind_form, fields_of_settings, all_forms, form_at, PlainType, number_type, words_type, masks_type, flag_type, HeldPlain, types_of_form, made_settings}
-use Rattle.fh_event.specs.Kinds.{Kind, make_queue, put, take, update, delete, clear, put_blob, delete_blob, note, acquire, renew_lease, release_lease, configure, arm, tick, peek, get_blob, locate, unnoted, kind_number, kind_of, fields_of, all_kinds, kind_at, types_of, Held, made}
+use Rattle.fh_event.specs.Kinds.{Kind, make_queue, put, take, update, delete, clear, put_blob, delete_blob, note, acquire, renew_lease, release_lease, configure, session, arm, tick, fetch, peek, get_blob, locate, unnoted, kind_number, kind_of, fields_of, all_kinds, kind_at, types_of, Held, made}
 use Rattle.fh_event.specs.Entries.{entry, IsEntry}
 use Rattle.fh_event.specs.Reading.{byte_at, number_at, text_at, plain_at, settings_of_form, settings_at, held_at, taken_at, command_of_kind, command_at, moment_at, entry_read}
 use Rattle.fh_event.proofs.Steps.{bind_ok, passed, ended, ok_is, IsBytes, IsBytes-rest, Takes, Takes-then, Takes-one}
@@ -139,6 +139,8 @@ agrees release_lease values = (refl, refl)
 agrees configure values = (refl, ap (λ (fs : List Field). words values.0 ∷ fs) (sym (append-nil (fields_of_settings values.1.0))))
 agrees arm values = (refl, refl)
 agrees tick values = (refl, refl)
+agrees session values = (refl, refl)
+agrees fetch values = (refl, refl)
 agrees peek values = (refl, refl)
 agrees get_blob values = (refl, refl)
 agrees locate values = (refl, refl)
@@ -160,6 +162,8 @@ values_of (ReleaseLease lease holder) = (lease, (holder, tt))
 values_of (Configure function settings) = (function, (settings, tt))
 values_of (Arm function) = (function, tt)
 values_of (Tick function) = (function, tt)
+values_of Session = tt
+values_of (Fetch function) = (function, tt)
 values_of (Peek queue count) = (queue, (count, tt))
 values_of (GetBlob container blob) = (container, (blob, tt))
 values_of (Locate n) = (n, tt)
@@ -183,6 +187,8 @@ rebuilt (ReleaseLease lease holder) = (refl, refl)
 rebuilt (Configure function settings) = (refl, ap (λ (fs : List Field). words function ∷ fs) (append-nil (fields_of_settings settings)))
 rebuilt (Arm function) = (refl, refl)
 rebuilt (Tick function) = (refl, refl)
+rebuilt Session = (refl, refl)
+rebuilt (Fetch function) = (refl, refl)
 rebuilt (Peek queue count) = (refl, refl)
 rebuilt (GetBlob container blob) = (refl, refl)
 rebuilt (Locate n) = (refl, refl)
@@ -206,6 +212,8 @@ found release_lease = refl
 found configure = refl
 found arm = refl
 found tick = refl
+found session = refl
+found fetch = refl
 found peek = refl
 found get_blob = refl
 found locate = refl

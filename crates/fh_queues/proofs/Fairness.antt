@@ -1,6 +1,6 @@
 -- Each ask keeps the queues whole.
-use Rattle.std.proofs.Common.{◌≡◌, ℕ, ◌+◌, ◌≤◌, Bool, true, List, [], ◌∷◌, map, refl, subst, arith}
-use Rattle.std.specs.Prelude.{◌&&◌, nat_le, nat_lt}
+use Rattle.std.proofs.Common.{◌≡◌, ℕ, ◌+◌, true, List, [], ◌∷◌, map, refl, subst, arith}
+use Rattle.std.specs.Prelude.{nat_le}
 use Rattle.std.specs.List.{list_all}
 use Rattle.std.proofs.lemmas.Bool.Decides.{nat_tests}
 use Rattle.fh_event.specs.Judging.{Makes}
@@ -10,7 +10,7 @@ use Rattle.fh_queues.specs.declared.act.Act.{Act}
 use Rattle.fh_queues.specs.Asks.{Ask}
 use Rattle.fh_queues.specs.Rows.{is_visible, visible}
 use Rattle.fh_queues.specs.Part.{QueuePart}
-use Rattle.fh_queues.specs.Acts.{by_acts, sweep}
+use Rattle.fh_queues.specs.Acts.{sweep}
 use Rattle.fh_queues.specs.Outcome.{after, taken_items, hold, outcome}
 use Rattle.fh_queues.specs.Whole.{is_counted, IsWhole}
 use Rattle.fh_queues.proofs.Finding.{list_all-filter, list_all-take}

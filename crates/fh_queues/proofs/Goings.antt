@@ -1,5 +1,5 @@
 -- Each message goes on as the ask and its answer say.
-use Rattle.std.proofs.Common.{◌≡◌, ℕ, ◌+◌, ◌≤◌, Bool, true, false, List, [], ◌∷◌, length, map, Option, Some, None, refl, sym, ◌∙◌, ap, subst, arith}
+use Rattle.std.proofs.Common.{◌≡◌, ℕ, ◌+◌, ◌≤◌, Bool, true, false, List, [], ◌∷◌, length, map, Option, Some, None, refl, sym, ◌∙◌, ap, arith}
 use Rattle.std.specs.Prelude.{◌==◌, if◌then◌else◌}
 use Rattle.std.proofs.lemmas.Bool.Decides.{nat_tests}
 use Rattle.fh_event.specs.declared.reply.Item.{Item}
@@ -13,7 +13,6 @@ use Rattle.fh_queues.specs.declared.act.NewMessage.{NewMessage}
 use Rattle.fh_queues.specs.declared.act.RowChange.{RowChange}
 use Rattle.fh_queues.specs.declared.act.Which.{Which}
 use Rattle.fh_queues.specs.declared.act.Which.TheVariants.{Dead, InQueue, Numbered}
-use Rattle.fh_queues.specs.declared.act.Act.{Act}
 use Rattle.fh_queues.specs.declared.act.Act.TheVariants.{AddQueue, AddRow, ChangeRow, EndRows}
 use Rattle.fh_queues.specs.Asks.{Ask, Make, Put, Take, Update, Delete, Clear, Sweep}
 use Rattle.fh_queues.specs.Rows.{is_of, is_dead, is_visible, visible, live, row_of}
@@ -24,7 +23,7 @@ use Rattle.fh_queues.specs.Outcome.{after, new_message, taken_items, held_as, ho
 use Rattle.fh_queues.specs.Receipts.{item_of}
 use Rattle.fh_queues.specs.Seen.{Seen, Unborn, Stands, Ended, seen_by, seen}
 use Rattle.fh_queues.specs.Whole.{IsWhole}
-use Rattle.fh_queues.specs.Goings.{held_by, answered, newly, goes_on}
+use Rattle.fh_queues.specs.Goings.{held_by, newly, goes_on}
 use Rattle.fh_queues.proofs.Finding.{row_of-number, are_rising-filter, are_rising-take}
 use Rattle.fh_queues.proofs.Seen.{ended_by, with_row_of, seen-with_ends, seen-with_row_change, seen-with_row}
 use Rattle.fh_queues.proofs.Whole.{all_given, row_of-new, seen-new, Whole-acted}

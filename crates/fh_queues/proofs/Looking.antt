@@ -1,6 +1,6 @@
 -- The row of a number, where it is live or in a queue, and the end of a number, by its slot.
-use Rattle.std.proofs.Common.{◌≡◌, ℕ, zero, suc, ◌+◌, ◌-◌, ◌≤◌, ◌<◌, Bool, true, false, List, [], ◌∷◌, length, Option, Some, None, refl, sym, ap, ◌∙◌, inl, inr, arith}
-use Rattle.std.specs.Prelude.{◌==◌, ◌&&◌, if◌then◌else◌, slice_index_or, ◌⊎◌}
+use Rattle.std.proofs.Common.{◌≡◌, ℕ, zero, suc, ◌+◌, ◌-◌, ◌≤◌, ◌<◌, Bool, true, false, List, [], ◌∷◌, length, Option, Some, None, refl, ap, ◌∙◌, inl, inr, arith}
+use Rattle.std.specs.Prelude.{◌==◌, ◌&&◌, slice_index_or, ◌⊎◌}
 use Rattle.std.proofs.lemmas.Bool.Decides.{nat_tests}
 use Rattle.fh_queues.specs.declared.row.Message.{Message}
 use Rattle.fh_queues.specs.declared.done.Ending.{Ending}
@@ -10,7 +10,7 @@ use Rattle.fh_queues.specs.Rows.{is_of, is_live, row_of, live_row, row_in}
 use Rattle.fh_queues.specs.Order.{are_rising}
 use Rattle.fh_queues.specs.Part.{end_of}
 use Rattle.fh_queues.specs.Index.{ends_of, slot_at}
-use Rattle.fh_queues.proofs.Finding.{keep_if, row_of-above}
+use Rattle.fh_queues.proofs.Finding.{keep_if}
 use Rattle.fh_queues.proofs.Ends.{end_of-past}
 use Rattle.fh_queues.proofs.Guards.{row_in-above}
 

@@ -1,14 +1,12 @@
 -- What asks and answers tell of messages is what becomes of their rows.
-use Rattle.std.proofs.Common.{◌≡◌, ℕ, ◌+◌, Bool, true, false, ◌⊎◌, inl, inr, List, [], ◌∷◌, take, zero, suc, Option, Some, None, is_some, refl, sym, ◌∙◌, ap, subst, arith}
-use Rattle.std.specs.Prelude.{◌==◌, ◌&&◌, if◌then◌else◌, filter}
-use Rattle.std.specs.List.{list_any}
+use Rattle.std.proofs.Common.{◌≡◌, ℕ, Bool, true, false, ◌⊎◌, inl, inr, List, [], ◌∷◌, Option, Some, None, is_some, refl, sym, ◌∙◌, ap, subst, arith}
+use Rattle.std.specs.Prelude.{◌==◌, ◌&&◌, if◌then◌else◌}
 use Rattle.std.proofs.lemmas.Bool.Decides.{nat_tests}
 use Rattle.fh_event.specs.declared.reply.Item.{Item}
 use Rattle.fh_queues.specs.declared.row.Message.{Message}
 use Rattle.fh_queues.specs.declared.row.About.{About}
 use Rattle.fh_queues.specs.declared.done.QueueDone.{QueueDone}
 use Rattle.fh_queues.specs.declared.done.QueueDone.TheVariants as done
-use Rattle.fh_queues.specs.declared.act.Act.{Act}
 use Rattle.fh_queues.specs.Asks.{Ask, Put, Take, Update}
 use Rattle.fh_queues.specs.Rows.{is_of, is_live, row_in, row_of}
 use Rattle.fh_queues.specs.Order.{are_rising}
@@ -21,7 +19,7 @@ use Rattle.fh_queues.specs.Whole.{IsWhole}
 use Rattle.fh_queues.specs.Goings.{held_by, newly}
 use Rattle.fh_queues.specs.Tellings.{lists, own_hold, newer, hold_given, IsNew, IsSame, TellsOfMessages}
 use Rattle.fh_queues.specs.Laws.{OfEachAsk}
-use Rattle.fh_queues.proofs.Finding.{row_of-number, row_of-above}
+use Rattle.fh_queues.proofs.Finding.{row_of-number}
 use Rattle.fh_queues.proofs.Guards.{row_in-above}
 use Rattle.fh_queues.proofs.Takes.{taken}
 use Rattle.fh_queues.proofs.Ways.{IsNamed, Ways, listed, by_ways}
