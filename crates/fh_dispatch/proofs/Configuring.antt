@@ -11,7 +11,7 @@ use Rattle.fh_queues.specs.Part.{QueuePart, has_queue}
 use Rattle.fh_queues.specs.Outcome as queue_outcome
 use Rattle.fh_dispatch.specs.Part.{WorkPart, function_of}
 use Rattle.fh_dispatch.specs.Settings.{is_as}
-use Rattle.fh_dispatch.specs.Outcome.{number_or}
+use Rattle.fh_dispatch.specs.Part.{number_or}
 use Rattle.fh_dispatch.specs.Queues.{queue_of, made_where_missing, configuring_queues}
 
 -- where the settings are new, what the queues are asked is to make the function's queue, where it is missing

@@ -15,172 +15,27 @@ use Rattle.fh_queues.specs.Asks as queues
 use Rattle.fh_queues.specs.Part.{has_queue}
 use Rattle.fh_dispatch.specs.declared.function.Function.{Function}
 use Rattle.fh_dispatch.specs.declared.act.Act.{Act}
-use Rattle.fh_dispatch.specs.declared.act.Act.TheVariants.{Set, AddJob}
+use Rattle.fh_dispatch.specs.declared.act.Act.TheVariants.{AddJob, BeginSession}
 use Rattle.fh_dispatch.specs.declared.ready.ReadyJob.{ReadyJob}
 use Rattle.fh_dispatch.specs.declared.done.WorkDone.{WorkDone}
 use Rattle.fh_dispatch.specs.declared.done.WorkDone.TheVariants as done
-use Rattle.fh_dispatch.specs.Part.{WorkPart, no_work, function_of}
 use Rattle.fh_dispatch.specs.Ready.{jobs_of, in_work, is_busy, with_job, without_jobs_of}
 use Rattle.fh_dispatch.specs.Settings.{is_as, same_trigger, has_other_trigger}
-use Rattle.fh_dispatch.specs.Asks.{Ask, Configure, Ready, Nothing}
+use Rattle.fh_dispatch.specs.Asks.{Ask, Configure, Ready, Session, Fetch, Nothing}
 use Rattle.fh_dispatch.specs.Rules.{settings_rule}
 use Rattle.fh_dispatch.specs.Acts.{next_after, with_function, acted, by_acts}
-use Rattle.fh_dispatch.specs.Outcome.{number_or, configured, dropping, configuring_as, Acting, acting, made_by, outcome}
-use Rattle.fh_dispatch.specs.Queues.{queue_of, made_where_missing, asks_queues}
+use Rattle.fh_dispatch.specs.Part.{WorkPart, no_work, function_of, number_or}
+use Rattle.fh_dispatch.specs.Outcome.{configured, outcome}
+use Rattle.fh_dispatch.specs.Queues.{queue_of, made_where_missing}
+use Rattle.fh_dispatch.specs.Queues.{trigger_of, is_full, batch_of, unless_full, fetching_queue, asks_queues}
+use Rattle.fh_dispatch.specs.declared.trigger.Trigger.{Trigger}
 use Rattle.fh_dispatch.specs.declared.timer.Timer.{Timer as FunctionTimer}
 use Rattle.fh_dispatch.specs.Timers.{timer_by, timer_found, timer_of, removing, configuring_timers, asks_timers}
-use Rattle.fh_dispatch.specs.Laws.{number_of, HasSchedule, IsWhole, OfEachAsk, StaysWhole, KeepsNumbers, GivesNumbersInTurn, IsAsConfigured, KeepsUnnamed, number_for, HasJobsAsAsked, is_about, KeepsOtherJobs, FindsNoJob, KeepsOneJob, answers, AnswersTheAsk, MovesNumbers, is_configure, AsksOnlyToMake, AsksOnlyToRemove, HasTimer, KeepsTimers}
+use Rattle.fh_dispatch.specs.Laws.{number_of, HasSchedule, IsWhole, OfEachAsk, StaysWhole, KeepsNumbers, GivesNumbersInTurn, IsAsConfigured, KeepsUnnamed, number_for, answers, AnswersTheAsk, MovesNumbers, is_configure, AsksAsItSays, AsksOnlyToRemove, HasTimer, KeepsTimers}
 use Rattle.fh_dispatch.proofs.Naming.{same_name, own_name, own_number, function_of-set}
 use Rattle.fh_dispatch.proofs.Scheduled.{is_scheduled}
-use Rattle.fh_dispatch.proofs.Jobs.{jobs_of-with_own, jobs_of-with_other, jobs_of-without_own, jobs_of-without_other}
-
-abbrev function_for : WorkPart → List ℕ → FunctionSettings → Function
-function_for part name settings = configured (number_for part name) name settings
-
-abbrev gets_other_trigger : WorkPart → List ℕ → FunctionSettings → Bool
-gets_other_trigger part name settings = has_other_trigger settings (function_of name part.functions)
-
--- the acts of a configure
-abbrev sets : WorkPart → List ℕ → FunctionSettings → List Act
-sets part name settings =
-    Set (function_for part name settings) ∷ dropping (number_for part name) (gets_other_trigger part name settings)
-
-abbrev job_for : ℕ → TimerRun → ReadyJob
-job_for function run = record { function = function; run = run }
-
--- what holds of each way in which an ask changes something
-record Ways (P : Ask → List Act → WorkDone → Type 0) (part : WorkPart) : Type 0 where
-  configures : (name : List ℕ) (settings : FunctionSettings) → settings_rule settings ≡ None → P (Configure name settings) (sets part name settings) (done.Configured (number_for part name))
-  readies : (function : ℕ) (run : TimerRun) → P (Ready function run) (AddJob (job_for function run) ∷ []) done.Ready
-  nothing : P Nothing [] done.Nothing
-
-record Way (P : Ask → List Act → WorkDone → Type 0) (part : WorkPart) (ask : Ask) (after : WorkPart) (answer : WorkDone) : Type 0 where
-  acts : List Act
-  made : by_acts part acts ≡ after
-  holds : P ask acts answer
-
-module _ (P : Ask → List Act → WorkDone → Type 0) (part : WorkPart) (ways : Ways P part) (after_ask : WorkPart) (answer : WorkDone) where
-  accepted : (rule : Option Rule) (judged : Acting) → made_by part (unless_refused rule judged) ≡ Makes after_ask answer → (rule ≡ None) × (made_by part judged ≡ Makes after_ask answer)
-  accepted None judged is = (refl, is)
-  accepted (Some rule) judged is = absurd (cc)
-
-  loud : (quiet : Bool) (judged : Acting) → made_by part (if quiet then Quiets done.Same else judged) ≡ Makes after_ask answer → made_by part judged ≡ Makes after_ask answer
-  loud true judged is = absurd (cc)
-  loud false judged is = is
-
-  way : (ask : Ask) (acts : List Act) (given : WorkDone) → P ask acts given → made_by part (Makes acts given) ≡ Makes after_ask answer → Way P part ask after_ask answer
-  way ask acts given holds is =
-      let made : by_acts part acts ≡ after_ask = cc in
-      let same : given ≡ answer = cc in
-      record { acts = acts; made = made; holds = subst (λ (d : WorkDone). P ask acts d) same holds }
-
-  by_acting : (ask : Ask) → made_by part (acting part ask) ≡ Makes after_ask answer → Way P part ask after_ask answer
-  unfolding acting
-  by_acting (Configure name settings) is =
-      let quiet = is_as settings (function_of name part.functions) in
-      let fits = accepted (settings_rule settings) _ is in
-      way (Configure name settings) _ _ (ways.configures name settings fits.0)
-      (loud quiet (configuring_as (number_for part name) name settings (gets_other_trigger part name settings)) fits.1)
-  by_acting (Ready function run) is = way (Ready function run) _ _ (ways.readies function run) is
-  by_acting Nothing is = way Nothing _ _ ways.nothing is
-
-  by_ways : (ask : Ask) (m : ℕ) → outcome part ask m ≡ Makes after_ask answer → Way P part ask after_ask answer
-  unfolding outcome
-  by_ways ask m is = by_acting ask is
-
--- ---- the number of a function that is configured
-
-number_for-known : (part : WorkPart) (name : List ℕ) (number : ℕ) → number_of part name ≡ Some number → number_for part name ≡ number
-number_for-known part name number is = by_found (function_of name part.functions) is
-  where
-    by_found : (found : Option Function) → option_map (λ (f : Function). f.number) found ≡ Some number → number_or part.next_function found ≡ number
-    by_found None is = cc
-    by_found (Some function) is = cc
-
-number_for-new : (part : WorkPart) (name : List ℕ) → number_of part name ≡ None → number_for part name ≡ part.next_function
-number_for-new part name is = by_found (function_of name part.functions) is
-  where
-    by_found : (found : Option Function) → option_map (λ (f : Function). f.number) found ≡ None → number_or part.next_function found ≡ part.next_function
-    by_found None is = refl
-    by_found (Some function) is = cc
-
-next_after-next : (next number : ℕ) → number ≡ next → next_after next number ≡ next + 1
-next_after-next next number is = by_test (number == next) refl
-  where
-    by_test : (b : Bool) → (number == next) ≡ b → (if b then next + 1 else next) ≡ next + 1
-    by_test true same = refl
-    by_test false apart = absurd (grind (arith, nat_tests, apart, is))
-
-next_after-given : (next number : ℕ) → number < next → next_after next number ≡ next
-next_after-given next number before = by_test (number == next) refl
-  where
-    by_test : (b : Bool) → (number == next) ≡ b → (if b then next + 1 else next) ≡ next
-    by_test true same = absurd (grind (arith, nat_tests, same, before))
-    by_test false apart = refl
-
-next_after-least : (next number : ℕ) → next ≤ next_after next number
-next_after-least next number = by_test (number == next)
-  where
-    by_test : (b : Bool) → next ≤ (if b then next + 1 else next)
-    by_test true = omega arith
-    by_test false = omega arith
-
--- a function that is set, with its jobs dropped or not
-module _ (function : Function) (part : WorkPart) where
-  functions-set : (drops : Bool) → (by_acts part (Set function ∷ dropping function.number drops)).functions ≡ (with_function function part).functions
-  unfolding acted
-  functions-set true = refl
-  functions-set false = refl
-
-  next-set : (drops : Bool) → (by_acts part (Set function ∷ dropping function.number drops)).next_function ≡ next_after part.next_function function.number
-  unfolding acted
-  next-set true = refl
-  next-set false = refl
-
-  ready-set : (drops : Bool) → (by_acts part (Set function ∷ dropping function.number drops)).ready ≡ (if drops then without_jobs_of function.number part.ready else part.ready)
-  unfolding acted
-  ready-set true = refl
-  ready-set false = refl
-
-module _ (part : WorkPart) where
-  abbrev after_set : List ℕ → FunctionSettings → WorkPart
-  after_set name settings = by_acts part (sets part name settings)
-
-  abbrev after_ready : ℕ → TimerRun → WorkPart
-  after_ready function run = by_acts part (AddJob (job_for function run) ∷ [])
-
-  function-after_set : (name : List ℕ) (settings : FunctionSettings) (x : List ℕ) → function_of x (after_set name settings).functions ≡ (if bytes_eq name x then Some (function_for part name settings) else function_of x part.functions)
-  function-after_set name settings x =
-      ap (function_of x) (functions-set (function_for part name settings) part (gets_other_trigger part name settings))
-      ∙ function_of-set (function_for part name settings) part x
-
-  numbers_after : (name : List ℕ) (settings : FunctionSettings) (x : List ℕ) → number_of (after_set name settings) x ≡ (if bytes_eq name x then Some (number_for part name) else number_of part x)
-  numbers_after name settings x = ap (option_map (λ (f : Function). f.number)) (function-after_set name settings x) ∙ by_test (bytes_eq name x)
-    where
-      by_test : (b : Bool) → option_map (λ (f : Function). f.number) (if b then Some (function_for part name settings) else function_of x part.functions) ≡ (if b then Some (number_for part name) else number_of part x)
-      by_test true = refl
-      by_test false = refl
-
-  next-after_set : (name : List ℕ) (settings : FunctionSettings) → (after_set name settings).next_function ≡ next_after part.next_function (number_for part name)
-  next-after_set name settings = next-set (function_for part name settings) part (gets_other_trigger part name settings)
-
-  functions-after_ready : (function : ℕ) (run : TimerRun) → (after_ready function run).functions ≡ part.functions
-  unfolding acted
-  functions-after_ready function run = refl
-
-  next-after_ready : (function : ℕ) (run : TimerRun) → (after_ready function run).next_function ≡ part.next_function
-  unfolding acted
-  next-after_ready function run = refl
-
-  numbers-after_ready : (function : ℕ) (run : TimerRun) (x : List ℕ) → number_of (after_ready function run) x ≡ number_of part x
-  numbers-after_ready function run x = ap (λ (fs : List Function). option_map (λ (f : Function). f.number) (function_of x fs)) (functions-after_ready function run)
-
-next_after-most : (next number : ℕ) → next_after next number ≤ next + 1
-next_after-most next number = by_test (number == next)
-  where
-    by_test : (b : Bool) → (if b then next + 1 else next) ≤ next + 1
-    by_test true = omega arith
-    by_test false = omega arith
+use Rattle.fh_dispatch.proofs.Ways.{function_for, gets_other_trigger, job_for, Ways, by_ways, number_for-known, number_for-new, next_after-next, next_after-given, next_after-least, next_after-most, session-set, after_set, function-after_set, numbers_after, next-after_set, SameFunctions, same-ready, same-session, same-added, session-added, ways_by_functions}
+pub use Rattle.fh_dispatch.proofs.JobLaws.{jobs_as_asked, keeps_other_jobs, keeps_one_run, keeps_to_the_bound, brings_no_others}
 
 -- ---- answers
 
@@ -189,50 +44,86 @@ module _ (part : WorkPart) where
   Answers ask acts answer = answers ask answer ≡ true
 
   answer_ways : Ways Answers part
-  answer_ways = record { configures = λ name settings fits. refl; readies = λ function run. refl; nothing = refl }
+  answer_ways = record {
+    configures = λ name settings fits. refl;
+    readies = λ function run. refl;
+    sessions = refl;
+    fetches = λ name trigger found room items few. refl;
+    nothing = refl;
+  }
 
-  abbrev Little : Ask → List Act → WorkDone → Type 0
-  Little ask acts answer = (by_acts part acts).next_function ≤ part.next_function + 1
+  abbrev MovesLittle : WorkPart → Type 0
+  MovesLittle after = (after.next_function ≤ part.next_function + 1) × (after.session ≤ part.session + 1)
 
-  little_ways : Ways Little part
+  same_little : (after : WorkPart) → SameFunctions part after → after.session ≤ part.session + 1 → MovesLittle after
+  same_little after same few = (omega (arith, same.next), few)
+
+  session-ready : (job : ReadyJob) → (by_acts part (AddJob job ∷ [])).session ≡ part.session
+  unfolding acted
+  session-ready job = refl
+
+  session-begun : (by_acts part (BeginSession ∷ [])).session ≡ part.session + 1
+  unfolding acted
+  session-begun = refl
+
+  little_ways : Ways (λ ask acts answer. MovesLittle (by_acts part acts)) part
   little_ways = record {
     configures = λ name settings fits.
         let is = next-after_set part name settings in
         let most = next_after-most part.next_function (number_for part name) in
-        omega (arith, is, most);
-    readies = λ function run. let is = next-after_ready part function run in omega (arith, is);
-    nothing = omega arith;
+        let kept = session-set (function_for part name settings) part (gets_other_trigger part name settings) in
+        (omega (arith, is, most), omega (arith, kept));
+    readies = λ function run. same_little _ (same-ready part function run) (omega (arith, session-ready (job_for function run)));
+    sessions = same_little _ (same-session part) (omega (arith, session-begun));
+    fetches = λ name trigger found room items few.
+        same_little _ (same-added trigger.function items part) (omega (arith, session-added trigger.function items part));
+    nothing = (omega arith, omega arith);
   }
 
 pub answers_the_ask : AnswersTheAsk
-answers_the_ask part ask m after answer is = (by_ways (Answers part) part (answer_ways part) after answer ask m is).holds
+answers_the_ask part others ask m after answer is =
+    (by_ways (Answers part) part (answer_ways part) others m after answer ask is).holds
 
 pub moves_numbers : MovesNumbers
-moves_numbers part ask m after answer is =
-    let by = by_ways (Little part) part (little_ways part) after answer ask m is in
-    subst (λ (p : WorkPart). p.next_function ≤ part.next_function + 1) by.made by.holds
+moves_numbers part others ask m after answer is =
+    let by = by_ways _ part (little_ways part) others m after answer ask is in
+    subst (MovesLittle part) by.made by.holds
 
 -- ---- queues
 
-pub asks_only_to_make : AsksOnlyToMake
+pub asks_as_it_says : AsksAsItSays
 unfolding asks_queues
-asks_only_to_make part kept Nothing = inl refl
-asks_only_to_make part kept (Ready function run) = inl refl
-asks_only_to_make part kept (Configure name settings) =
+asks_as_it_says part others Nothing = refl
+asks_as_it_says part others (Ready function run) = refl
+asks_as_it_says part others Session = refl
+asks_as_it_says part others (Fetch name) = by_trigger (trigger_of name part.functions) refl
+  where
+    by_room : (trigger : Trigger) (full : Bool) → trigger_of name part.functions ≡ Some trigger
+        → (unless_full full trigger ≡ None)
+        ⊎ ((t : Trigger) × (trigger_of name part.functions ≡ Some t) × (unless_full full trigger ≡ Some (batch_of t)))
+    by_room trigger true found = inl refl
+    by_room trigger false found = inr (trigger, found, refl)
+
+    by_trigger : (given : Option Trigger) → trigger_of name part.functions ≡ given
+        → (fetching_queue part given ≡ None)
+        ⊎ ((t : Trigger) × (trigger_of name part.functions ≡ Some t) × (fetching_queue part given ≡ Some (batch_of t)))
+    by_trigger None found = inl refl
+    by_trigger (Some trigger) found = by_room trigger (is_full part trigger) found
+asks_as_it_says part others (Configure name settings) =
     by_test (is_as settings (function_of name part.functions)) (queue_of (number_for part name) settings)
   where
     by_there : (queue : List ℕ) (there : Bool)
         → ((if there then None else Some (queues.Make queue)) ≡ None)
-        ⊎ ((other : List ℕ) × ((if there then None else Some (queues.Make queue)) ≡ Some (queues.Make other)) × (is_configure (Configure name settings) ≡ true))
+        ⊎ ((other : List ℕ) × ((if there then None else Some (queues.Make queue)) ≡ Some (queues.Make other)))
     by_there queue true = inl refl
-    by_there queue false = inr (queue, refl, refl)
+    by_there queue false = inr (queue, refl)
 
     by_test : (same : Bool) (queue : Option (List ℕ))
-        → ((if same then None else made_where_missing kept queue) ≡ None)
-        ⊎ ((other : List ℕ) × ((if same then None else made_where_missing kept queue) ≡ Some (queues.Make other)) × (is_configure (Configure name settings) ≡ true))
+        → ((if same then None else made_where_missing others.queues queue) ≡ None)
+        ⊎ ((other : List ℕ) × ((if same then None else made_where_missing others.queues queue) ≡ Some (queues.Make other)))
     by_test true queue = inl refl
     by_test false None = inl refl
-    by_test false (Some queue) = by_there queue (has_queue kept.queues queue)
+    by_test false (Some queue) = by_there queue (has_queue others.queues.queues queue)
 
 -- ---- timers
 
@@ -240,6 +131,8 @@ pub asks_only_to_remove : AsksOnlyToRemove
 unfolding asks_timers
 asks_only_to_remove part Nothing = inl refl
 asks_only_to_remove part (Ready function run) = inl refl
+asks_only_to_remove part Session = inl refl
+asks_only_to_remove part (Fetch name) = inl refl
 asks_only_to_remove part (Configure name settings) = by_test (has_other_trigger settings (function_of name part.functions))
   where
     by_test : (other : Bool)
@@ -284,9 +177,6 @@ same_timer number (Blob b t l r s) (Blob batch threshold limit retry singleton) 
 same_timer number old new timer same is = absurd (cc)
 
 module _ (part : WorkPart) where
-  abbrev KeepsT : Ask → List Act → WorkDone → Type 0
-  KeepsT ask acts answer = KeepsTimers part 0 ask (by_acts part acts) answer
-
   unchanged : (x : List ℕ) (timer : FunctionTimer) → timer_of x part.functions ≡ Some timer → HasTimer part x timer
   unchanged x timer is = record { before = timer; there = is; function = refl; schedule = refl }
 
@@ -317,58 +207,53 @@ module _ (part : WorkPart) where
       subst (λ (n : List ℕ). Timed name settings n timer) (same_name name x same) (of_found name settings timer (function_of name part.functions) refl is)
   of_named name settings x timer false apart is = inl (unchanged x timer is)
 
-  timer_ways : Ways KeepsT part
-  timer_ways = record {
-    configures = λ name settings fits x timer is. of_named name settings x timer (bytes_eq name x) refl (sym (ap timer_found (function-after_set part name settings x)) ∙ is);
-    readies = λ function run x timer is. inl (unchanged x timer (sym (ap (timer_of x) (functions-after_ready part function run)) ∙ is));
-    nothing = λ x timer is. inl (unchanged x timer is);
-  }
+  timer_ways : Ways (λ ask acts answer. KeepsTimers part 0 ask (by_acts part acts) answer) part
+  timer_ways = ways_by_functions (λ ask after answer. KeepsTimers part 0 ask after answer) part
+      (λ name settings fits x timer is.
+      of_named name settings x timer (bytes_eq name x) refl (sym (ap timer_found (function-after_set part name settings x)) ∙ is))
+      (λ ask after answer plain same x timer is. inl (unchanged x timer (sym (ap (timer_of x) same.functions) ∙ is)))
 
 pub keeps_timers : OfEachAsk KeepsTimers
-keeps_timers part ask m after answer h is =
-    let by = by_ways (KeepsT part) part (timer_ways part) after answer ask m is in
+keeps_timers part others ask m after answer h is =
+    let by = by_ways _ part (timer_ways part) others m after answer ask is in
     subst (λ (p : WorkPart). KeepsTimers part m ask p answer) by.made by.holds
 
 -- ---- numbers stay
 
-module _ (part : WorkPart) where
-  abbrev Keeps : Ask → List Act → WorkDone → Type 0
-  Keeps ask acts answer = KeepsNumbers part 0 ask (by_acts part acts) answer
+-- equal functions have equal numbers
+same_numbers : (part after : WorkPart) → SameFunctions part after → (x : List ℕ) → number_of after x ≡ number_of part x
+same_numbers part after same x =
+    ap (λ (fs : List Function). option_map (λ (f : Function). f.number) (function_of x fs)) same.functions
 
-  keep_ways : Ways Keeps part
-  keep_ways = record {
-    configures = kept;
-    readies = λ function run x number is. numbers-after_ready part function run x ∙ is;
-    nothing = λ x number is. is;
-  }
+module _ (part : WorkPart) where
+  keep_ways : Ways (λ ask acts answer. KeepsNumbers part 0 ask (by_acts part acts) answer) part
+  keep_ways = ways_by_functions (λ ask after answer. KeepsNumbers part 0 ask after answer) part kept
+      (λ ask after answer plain same x number is. same_numbers part after same x ∙ is)
     where
-      kept : (name : List ℕ) (settings : FunctionSettings) → settings_rule settings ≡ None → Keeps (Configure name settings) (sets part name settings) (done.Configured (number_for part name))
+      kept : (name : List ℕ) (settings : FunctionSettings) → settings_rule settings ≡ None
+          → KeepsNumbers part 0 (Configure name settings) (after_set part name settings) (done.Configured (number_for part name))
       kept name settings fits x number is = numbers_after part name settings x ∙ by_test (bytes_eq name x) refl
         where
-          by_test : (b : Bool) → bytes_eq name x ≡ b → (if b then Some (number_for part name) else number_of part x) ≡ Some number
+          by_test : (b : Bool) → bytes_eq name x ≡ b
+              → (if b then Some (number_for part name) else number_of part x) ≡ Some number
           by_test true same = ap (λ n. Some n) (number_for-known part name number (ap (number_of part) (same_name name x same) ∙ is))
           by_test false apart = is
 
 pub numbers_kept : OfEachAsk KeepsNumbers
-numbers_kept part ask m after answer h is =
-    let by = by_ways (Keeps part) part (keep_ways part) after answer ask m is in
+numbers_kept part others ask m after answer h is =
+    let by = by_ways _ part (keep_ways part) others m after answer ask is in
     subst (λ (p : WorkPart). KeepsNumbers part m ask p answer) by.made by.holds
 
 -- ---- numbers in turn
 
 module _ (part : WorkPart) (h : IsWhole part) where
-  abbrev InTurn : Ask → List Act → WorkDone → Type 0
-  InTurn ask acts answer = GivesNumbersInTurn part 0 ask (by_acts part acts) answer
-
-  turn_ways : Ways InTurn part
-  turn_ways = record {
-    configures = λ name settings fits. record { new = λ x number none is. is_new name settings x number none is; stays = λ x number known is. is_old name settings x number known is };
-    readies = λ function run. record {
-      new = λ x number none is. absurd (cc (none, numbers-after_ready part function run x, is));
-      stays = λ x number known is. next-after_ready part function run;
-    };
-    nothing = record { new = λ x number none is. absurd (cc (none, is)); stays = λ x number known is. refl };
-  }
+  turn_ways : Ways (λ ask acts answer. GivesNumbersInTurn part 0 ask (by_acts part acts) answer) part
+  turn_ways = ways_by_functions (λ ask after answer. GivesNumbersInTurn part 0 ask after answer) part
+      (λ name settings fits. record { new = λ x number none is. is_new name settings x number none is; stays = λ x number known is. is_old name settings x number known is })
+      (λ ask after answer plain same. record {
+        new = λ x number none is. absurd (cc (none, same_numbers part after same x, is));
+        stays = λ x number known is. same.next;
+      })
     where
       is_new : (name : List ℕ) (settings : FunctionSettings) (x : List ℕ) (number : ℕ) → number_of part x ≡ None → number_of (after_set part name settings) x ≡ Some number → (number ≡ part.next_function) × ((after_set part name settings).next_function ≡ part.next_function + 1)
       is_new name settings x number none is = by_test (bytes_eq name x) refl (sym (numbers_after part name settings x) ∙ is)
@@ -387,42 +272,47 @@ module _ (part : WorkPart) (h : IsWhole part) where
           next-after_set part name settings ∙ next_after-given part.next_function (number_for part name) before
 
 pub numbers_in_turn : OfEachAsk GivesNumbersInTurn
-numbers_in_turn part ask m after answer h is =
-    let by = by_ways (InTurn part h) part (turn_ways part h) after answer ask m is in
+numbers_in_turn part others ask m after answer h is =
+    let by = by_ways _ part (turn_ways part h) others m after answer ask is in
     let holds = subst (λ (p : WorkPart). GivesNumbersInTurn part 0 ask p answer) by.made by.holds in
     record { new = holds.new; stays = holds.stays }
 
 -- ---- what is stored
 
 module _ (part : WorkPart) where
-  abbrev Stores : Ask → List Act → WorkDone → Type 0
-  Stores ask acts answer = IsAsConfigured part 0 ask (by_acts part acts) answer
-
-  store_ways : Ways Stores part
-  store_ways = record { configures = λ name settings fits. function-after_set part name settings name ∙ found name settings (bytes_eq name name) (own_name name); readies = λ function run. functions-after_ready part function run; nothing = refl }
+  store_ways : Ways (λ ask acts answer. IsAsConfigured part 0 ask (by_acts part acts) answer) part
+  store_ways = record {
+    configures = λ name settings fits.
+        function-after_set part name settings name ∙ found name settings (bytes_eq name name) (own_name name);
+    readies = λ function run. (same-ready part function run).functions;
+    sessions = (same-session part).functions;
+    fetches = λ name trigger given room items few. (same-added trigger.function items part).functions;
+    nothing = refl;
+  }
     where
-      found : (name : List ℕ) (settings : FunctionSettings) (b : Bool) → b ≡ true → (if b then Some (function_for part name settings) else function_of name part.functions) ≡ Some (function_for part name settings)
+      found : (name : List ℕ) (settings : FunctionSettings) (b : Bool) → b ≡ true
+          → (if b then Some (function_for part name settings) else function_of name part.functions)
+          ≡ Some (function_for part name settings)
       found name settings true is = refl
       found name settings false is = cc
 
-  abbrev KeepsRows : Ask → List Act → WorkDone → Type 0
-  KeepsRows ask acts answer = KeepsUnnamed part 0 ask (by_acts part acts) answer
-
-  row_ways : Ways KeepsRows part
-  row_ways = record { configures = λ name settings fits x other. function-after_set part name settings x ∙ skipped (bytes_eq name x) _ _ other; readies = λ function run x other. ap (function_of x) (functions-after_ready part function run); nothing = λ x other. refl }
+  row_ways : Ways (λ ask acts answer. KeepsUnnamed part 0 ask (by_acts part acts) answer) part
+  row_ways = ways_by_functions (λ ask after answer. KeepsUnnamed part 0 ask after answer) part
+      (λ name settings fits x other. function-after_set part name settings x ∙ skipped (bytes_eq name x) _ _ other)
+      (λ ask after answer plain same x other. ap (function_of x) same.functions)
     where
       skipped : (same : Bool) (new before : Option Function) → same ≡ false → (if same then new else before) ≡ before
       skipped true new before is = cc
       skipped false new before is = refl
 
 pub as_configured : OfEachAsk IsAsConfigured
-as_configured part ask m after answer h is =
-    let by = by_ways (Stores part) part (store_ways part) after answer ask m is in
+as_configured part others ask m after answer h is =
+    let by = by_ways _ part (store_ways part) others m after answer ask is in
     subst (λ (p : WorkPart). IsAsConfigured part m ask p answer) by.made by.holds
 
 pub keeps_unnamed : OfEachAsk KeepsUnnamed
-keeps_unnamed part ask m after answer h is =
-    let by = by_ways (KeepsRows part) part (row_ways part) after answer ask m is in
+keeps_unnamed part others ask m after answer h is =
+    let by = by_ways _ part (row_ways part) others m after answer ask is in
     subst (λ (p : WorkPart). KeepsUnnamed part m ask p answer) by.made by.holds
 
 -- ---- whole parts
@@ -491,90 +381,20 @@ module _ (part : WorkPart) (h : IsWhole part) (name : List ℕ) (settings : Func
     scheduled = set_scheduled;
   }
 
-Whole-ready : (part : WorkPart) (h : IsWhole part) (function : ℕ) (run : TimerRun) → IsWhole (after_ready part function run)
-unfolding acted
-Whole-ready part h function run = record { begun = h.begun; given = h.given; apart = h.apart; scheduled = h.scheduled }
-
-module _ (part : WorkPart) (h : IsWhole part) where
-  abbrev Stays : Ask → List Act → WorkDone → Type 0
-  Stays ask acts answer = IsWhole (by_acts part acts)
-
-  whole_ways : Ways Stays part
-  whole_ways = record { configures = λ name settings fits. Whole-set part h name settings fits; readies = λ function run. Whole-ready part h function run; nothing = h }
+Whole-same : (part : WorkPart) → IsWhole part → (after : WorkPart) → SameFunctions part after → IsWhole after
+Whole-same part h after same = record {
+  begun = omega (arith, same.next, h.begun);
+  given = λ name number is.
+      let before = h.given name number (sym (same_numbers part after same name) ∙ is) in
+      (before.0, omega (arith, same.next, before.1));
+  apart = λ name other number mine theirs.
+      h.apart name other number (sym (same_numbers part after same name) ∙ mine)
+      (sym (same_numbers part after same other) ∙ theirs);
+  scheduled = λ name. rw same.functions (h.scheduled name);
+}
 
 pub Whole-outcome : OfEachAsk StaysWhole
-Whole-outcome part ask m after answer h is =
-    let by = by_ways (Stays part h) part (whole_ways part h) after answer ask m is in
+Whole-outcome part others ask m after answer h is =
+    let ways = ways_by_functions (λ ask after answer. IsWhole after) part (Whole-set part h) (λ ask after answer plain same. Whole-same part h after same) in
+    let by = by_ways _ part ways others m after answer ask is in
     subst IsWhole by.made by.holds
-
--- ---- ready jobs
-
-module _ (part : WorkPart) where
-  jobs-set : (name : List ℕ) (settings : FunctionSettings) (f : ℕ) → jobs_of f (after_set part name settings).ready ≡ jobs_of f (if gets_other_trigger part name settings then without_jobs_of (number_for part name) part.ready else part.ready)
-  jobs-set name settings f = ap (jobs_of f) (ready-set (function_for part name settings) part (gets_other_trigger part name settings))
-
-  jobs-ready : (function : ℕ) (run : TimerRun) (f : ℕ) → jobs_of f (after_ready part function run).ready ≡ jobs_of f (with_job (job_for function run) part.ready)
-  unfolding acted
-  jobs-ready function run f = refl
-
-  abbrev Jobs : Ask → List Act → WorkDone → Type 0
-  Jobs ask acts answer = HasJobsAsAsked part 0 ask (by_acts part acts) answer
-
-  job_ways : Ways Jobs part
-  job_ways = record {
-    configures = λ name settings fits. jobs-set name settings (number_for part name) ∙ own (number_for part name) (gets_other_trigger part name settings);
-    readies = λ function run. jobs-ready function run function ∙ jobs_of-with_own function (job_for function run) part.ready (own_number function);
-    nothing = refl;
-  }
-    where
-      own : (f : ℕ) (drops : Bool) → jobs_of f (if drops then without_jobs_of f part.ready else part.ready) ≡ (if drops then [] else jobs_of f part.ready)
-      own f true = jobs_of-without_own f f part.ready (own_number f)
-      own f false = refl
-
-  abbrev KeepsJobs : Ask → List Act → WorkDone → Type 0
-  KeepsJobs ask acts answer = KeepsOtherJobs part 0 ask (by_acts part acts) answer
-
-  other_ways : Ways KeepsJobs part
-  other_ways = record {
-    configures = λ name settings fits f other. jobs-set name settings f ∙ others f (number_for part name) other (gets_other_trigger part name settings);
-    readies = λ function run f other. jobs-ready function run f ∙ jobs_of-with_other f (job_for function run) part.ready other;
-    nothing = λ f other. refl;
-  }
-    where
-      others : (f g : ℕ) → (g == f) ≡ false → (drops : Bool) → jobs_of f (if drops then without_jobs_of g part.ready else part.ready) ≡ jobs_of f part.ready
-      others f g other true = jobs_of-without_other f g part.ready other
-      others f g other false = refl
-
-pub jobs_as_asked : OfEachAsk HasJobsAsAsked
-jobs_as_asked part ask m after answer h is =
-    let by = by_ways (Jobs part) part (job_ways part) after answer ask m is in
-    subst (λ (p : WorkPart). HasJobsAsAsked part m ask p answer) by.made by.holds
-
-pub keeps_other_jobs : OfEachAsk KeepsOtherJobs
-keeps_other_jobs part ask m after answer h is =
-    let by = by_ways (KeepsJobs part) part (other_ways part) after answer ask m is in
-    subst (λ (p : WorkPart). KeepsOtherJobs part m ask p answer) by.made by.holds
-
-pub keeps_one_job : OfEachAsk KeepsOneJob
-keeps_one_job part ask m after answer h is finds f one = by_test (is_about part f ask) refl
-  where
-    asked : HasJobsAsAsked part m ask after answer
-    asked = jobs_as_asked part ask m after answer h is
-
-    about : (ask : Ask) → HasJobsAsAsked part m ask after answer → FindsNoJob part ask → is_about part f ask ≡ true → in_work f after.ready ≤ 1
-    about (Configure name settings) jobs none same = by_trigger (gets_other_trigger part name settings) (ap length (subst (λ (g : ℕ). jobs_of g after.ready ≡ (if gets_other_trigger part name settings then [] else jobs_of g part.ready)) (eqb-true _ _ same) jobs))
-      where
-        by_trigger : (drops : Bool) → in_work f after.ready ≡ length (if drops then [] else jobs_of f part.ready) → in_work f after.ready ≤ 1
-        by_trigger true none_left = omega (arith, none_left)
-        by_trigger false as_before = omega (arith, as_before, one)
-    about (Ready function run) jobs none same =
-        let all : in_work f after.ready ≡ length (jobs_of f part.ready ++ job_for function run ∷ [])
-        = ap length (subst (λ (g : ℕ). jobs_of g after.ready ≡ jobs_of g part.ready ++ job_for function run ∷ []) (eqb-true _ _ same) jobs) in
-        let idle : is_busy f part.ready ≡ false = subst (λ (g : ℕ). is_busy g part.ready ≡ false) (eqb-true _ _ same) none in
-        let none_before : in_work f part.ready ≡ 0 = grind (arith, nat_tests, idle) in
-        omega (arith, all, length-append (jobs_of f part.ready) (job_for function run ∷ []), none_before)
-    about Nothing jobs none same = absurd cc
-
-    by_test : (b : Bool) → is_about part f ask ≡ b → in_work f after.ready ≤ 1
-    by_test true same = about ask asked finds same
-    by_test false other = rw (keeps_other_jobs part ask m after answer h is f other) one

@@ -3,5 +3,7 @@ pub mod Configuring
 pub mod Naming
 pub mod Jobs
 pub mod Scheduled
+mod Ways
+mod JobLaws
 pub mod Lawful
 pub mod Comparing

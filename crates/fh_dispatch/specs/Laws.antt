@@ -1,5 +1,5 @@
 -- What holds of each ask that changes something.
-use Rattle.std.specs.Prelude.{◌≡◌, ⊤, ⊥, ℕ, ◌+◌, ◌<◌, ◌≤◌, ◌==◌, Bool, true, false, if◌then◌else◌, ◌↔◌, ◌⊎◌, List, [], ◌∷◌, ◌++◌, map, Option, Some, None, option_map, IfSome}
+use Rattle.std.specs.Prelude.{◌≡◌, ⊤, ℕ, ◌+◌, ◌<◌, ◌≤◌, ◌==◌, Bool, true, false, if◌then◌else◌, ◌↔◌, ◌⊎◌, List, [], ◌∷◌, ◌++◌, map, Option, Some, None, option_map, IfSome}
 use Rattle.std.specs.Str.{bytes_eq}
 use Rattle.fh_event.specs.declared.settings.FunctionSettings.{FunctionSettings}
 use Rattle.fh_event.specs.declared.settings.FunctionSettings.TheVariants.{Timer}
@@ -149,10 +149,15 @@ abbrev pub IsWithin : WorkPart → Option Trigger → Type 0
 IsWithin after None = ⊥
 IsWithin after (Some trigger) = in_work trigger.function after.ready ≤ trigger.batch + trigger.threshold
 
--- so it is behind each fetch, and no other ask but one for a run brings more into work
-pub record KeepsToTheBound (part : WorkPart) (m : ℕ) (ask : Ask) (after : WorkPart) (answer : WorkDone) : Type 0 where
-  pub fetch : (name : List ℕ) → ask ≡ Fetch name → IsWithin after (trigger_of name part.functions)
-  pub others : (f : ℕ) → brings_jobs part f ask ≡ false → in_work f after.ready ≤ in_work f part.ready
+-- so it is behind each fetch
+abbrev pub KeepsToTheBound : WorkPart → ℕ → Ask → WorkPart → WorkDone → Type 0
+KeepsToTheBound part m (Fetch name) after answer = IsWithin after (trigger_of name part.functions)
+KeepsToTheBound part m ask after answer = ⊤
+
+-- and a function to which the ask brings no jobs has no more of them than before
+abbrev pub BringsNoOthers : WorkPart → ℕ → Ask → WorkPart → WorkDone → Type 0
+BringsNoOthers part m ask after answer =
+    (f : ℕ) → brings_jobs part f ask ≡ false → in_work f after.ready ≤ in_work f part.ready
 
 -- the answer is one to this ask
 abbrev pub answers : Ask → WorkDone → Bool

@@ -2,7 +2,7 @@
 //! over every list of asks, from no functions on.
 
 ghost use Rattle.fh_dispatch.specs.Part.{no_work};
-ghost use Rattle.fh_dispatch.specs.Laws.{IsWhole, OfEachAsk, StaysWhole, KeepsNumbers, GivesNumbersInTurn, IsAsConfigured, KeepsUnnamed, HasJobsAsAsked, KeepsOtherJobs, KeepsOneJob, AnswersTheAsk, MovesNumbers, AsksOnlyToMake, AsksOnlyToRemove, KeepsTimers, ComparesSettings};
+ghost use Rattle.fh_dispatch.specs.Laws.{IsWhole, OfEachAsk, StaysWhole, KeepsNumbers, GivesNumbersInTurn, IsAsConfigured, KeepsUnnamed, HasJobsAsAsked, KeepsOtherJobs, KeepsOneRun, KeepsToTheBound, BringsNoOthers, AnswersTheAsk, MovesNumbers, AsksAsItSays, AsksOnlyToRemove, KeepsTimers, ComparesSettings};
 
 /// The numbers of functions were given, no two functions have one number, and a function that runs by a schedule
 /// has one.
@@ -31,8 +31,9 @@ pub fn other_functions_stay()
     ensures { OfEachAsk KeepsUnnamed }
 {}
 
-/// A run that is made ready is the last of its function's jobs. A function that is configured keeps its jobs,
-/// and has none where it gets another trigger.
+/// A run that is made ready is the last of its function's jobs, and messages that are fetched are the last ones,
+/// as they are told. A function that is configured keeps its jobs, and has none where it gets another trigger. A
+/// session begins without jobs.
 pub fn jobs_are_as_asked()
     ensures { OfEachAsk HasJobsAsAsked }
 {}
@@ -42,9 +43,19 @@ pub fn other_jobs_stay()
     ensures { OfEachAsk KeepsOtherJobs }
 {}
 
-/// Where each run is made ready while no job of its function is in work, no function has two.
-pub fn one_job_stays_one()
-    ensures { OfEachAsk KeepsOneJob }
+/// Where each run is made ready while no job of its function is in work, no function has two runs in work.
+pub fn one_run_stays_one()
+    ensures { OfEachAsk KeepsOneRun }
+{}
+
+/// Behind each fetch a function has no more jobs in work than a batch beside its threshold.
+pub fn fetches_keep_to_the_bound()
+    ensures { OfEachAsk KeepsToTheBound }
+{}
+
+/// Only a fetch and a run that is made ready bring their function jobs.
+pub fn other_asks_bring_no_jobs()
+    ensures { OfEachAsk BringsNoOthers }
 {}
 
 /// Each ask that changes something has its own answer.
@@ -52,14 +63,15 @@ pub fn asks_have_their_answers()
     ensures { AnswersTheAsk }
 {}
 
-/// One number is given at once, at most.
-pub fn numbers_move_little()
+/// One number is given at once, at most, and one session begins.
+pub fn counters_move_little()
     ensures { MovesNumbers }
 {}
 
-/// The queues are asked to make a queue or nothing, and only where a function is configured.
-pub fn queues_are_only_made()
-    ensures { AsksOnlyToMake }
+/// The queues are asked to make a queue at most where a function is configured, for a batch at most where it
+/// fetches, and else for nothing.
+pub fn queues_are_asked_as_said()
+    ensures { AsksAsItSays }
 {}
 
 /// The timers are asked to remove a row or nothing, and only where a function is configured.

@@ -382,7 +382,7 @@ fn jobs_of_a_function_are_in_the_order_in_which_they_came(rt: HostRuntime) -> Re
     assert!(&rt; work.in_work(1) == 1 && work.in_work(2) == 2 && !work.is_busy(3));
     let jobs = work.jobs_of(2);
     let first = jobs.first().ok_or("a job")?;
-    assert!(&rt; first.run.due == Some(10));
+    assert!(&rt; first.job == Job::Timer { run: run(10) });
     Ok(())
 }
 

@@ -1,7 +1,7 @@
 use Rattle.std.proofs.Common.{◌≡◌, false, ap, sym, ◌∙◌}
 use Rattle.fh_dispatch.specs.Part.{function_of}
 use Rattle.fh_dispatch.specs.Settings.{is_as}
-use Rattle.fh_dispatch.specs.Outcome.{number_or}
+use Rattle.fh_dispatch.specs.Part.{number_or}
 use Rattle.fh_dispatch.specs.Edits.{WorkState}
 use Rattle.fh_dispatch.proofs.Configuring.{set_asks}
 use Rattle.fh_dispatch.proofs.work.Work.plan_configure.Goals as goal

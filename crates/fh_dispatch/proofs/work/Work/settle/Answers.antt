@@ -11,6 +11,7 @@ act-requires c =
       room = omega (arith, c.loop-act.invariant.room, steps);
       job_room = omega (arith, c.loop-act.invariant.job_room, steps);
       numbers = omega (arith, c.loop-act.invariant.numbers, steps);
+      sessions = omega (arith, c.loop-act.invariant.sessions, steps);
     }
 
 pub loop-act-preserved : goal.loop-act-preserved
@@ -25,4 +26,5 @@ loop-act-preserved c =
       room = omega (arith, at.invariant.room, c.act.ensures.room, short);
       job_room = omega (arith, at.invariant.job_room, c.act.ensures.job_room, short);
       numbers = omega (arith, at.invariant.numbers, c.act.ensures.numbers, short);
+      sessions = omega (arith, at.invariant.sessions, c.act.ensures.sessions, short);
     }

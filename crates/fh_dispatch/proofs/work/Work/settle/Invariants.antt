@@ -10,4 +10,5 @@ invariant-loop-act l = record {
   room : length (into_iter_items l.act-iterator) ≤ l.self.room;
   job_room : length (into_iter_items l.act-iterator) ≤ l.self.job_room;
   numbers : l.self.part.next_function + length (into_iter_items l.act-iterator) < 2 ^ 64;
+  sessions : l.self.part.session + length (into_iter_items l.act-iterator) < 2 ^ 64;
 }
