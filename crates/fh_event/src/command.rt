@@ -1,4 +1,5 @@
 // Commands.
+use crate::outcome::Outcome;
 use crate::settings::FunctionSettings;
 use fh_base::Text;
 
@@ -93,6 +94,20 @@ pub enum Command {
     Fetch {
         function: Text,
     },
+    /// Makes the first ready job of a function a running invocation. The halves are those of 16 random bytes,
+    /// from which the invocation's id is made.
+    Begin {
+        function: Text,
+        high: u64,
+        low: u64,
+    },
+    /// Ends an invocation.
+    Finish {
+        invocation: u64,
+        outcome: Outcome,
+    },
+    /// Holds anew what running invocations hold, where a hold ends soon.
+    Renewals,
     /// Reads the first visible messages.
     Peek {
         queue: Text,
