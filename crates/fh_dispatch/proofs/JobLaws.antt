@@ -200,7 +200,7 @@ keeps_one_run part others ask m after answer h is finds f one = by_test (is_abou
         by_trigger false as_before = omega (arith, as_before, one)
     about (Ready function run) jobs none same =
         let own : jobs_of f after.ready ≡ jobs_of f part.ready ++ job_for function run ∷ [] =
-            subst (λ (g : ℕ). jobs_of g after.ready ≡ jobs_of g part.ready ++ job_for function run ∷ []) (eqb-true _ _ same) jobs in
+        subst (λ (g : ℕ). jobs_of g after.ready ≡ jobs_of g part.ready ++ job_for function run ∷ []) (eqb-true _ _ same) jobs in
         let idle : is_busy f part.ready ≡ false = subst (λ (g : ℕ). is_busy g part.ready ≡ false) (eqb-true _ _ same) none in
         let before : jobs_of f part.ready ≡ [] = nothing_in (jobs_of f part.ready) (grind (arith, nat_tests, idle)) in
         let all = ap (λ js. length (runs js)) (own ∙ ap (λ (js : List ReadyJob). js ++ job_for function run ∷ []) before) in
@@ -213,7 +213,7 @@ keeps_one_run part others ask m after answer h is finds f one = by_test (is_abou
     about (Fetch name) jobs none same =
         let own = subst (λ (g : ℕ). jobs_of g after.ready ≡ jobs_of g part.ready ++ jobs_told g answer) (eqb-true _ _ same) jobs in
         let all = ap runs own ∙ filter-append (λ (job : ReadyJob). is_run job.job) (jobs_of f part.ready) (jobs_told f answer)
-            ∙ ap (λ (js : List ReadyJob). runs (jobs_of f part.ready) ++ js) (no_runs f (fetched_in answer)) ∙ append-nil (runs (jobs_of f part.ready)) in
+        ∙ ap (λ (js : List ReadyJob). runs (jobs_of f part.ready) ++ js) (no_runs f (fetched_in answer)) ∙ append-nil (runs (jobs_of f part.ready)) in
         omega (arith, ap length all, one)
     about Nothing jobs none same = absurd cc
 

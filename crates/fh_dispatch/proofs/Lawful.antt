@@ -35,6 +35,7 @@ use Rattle.fh_dispatch.specs.Laws.{number_of, HasSchedule, IsWhole, OfEachAsk, S
 use Rattle.fh_dispatch.proofs.Naming.{same_name, own_name, own_number, function_of-set}
 use Rattle.fh_dispatch.proofs.Scheduled.{is_scheduled}
 use Rattle.fh_dispatch.proofs.Ways.{function_for, gets_other_trigger, job_for, Ways, by_ways, number_for-known, number_for-new, next_after-next, next_after-given, next_after-least, next_after-most, session-set, after_set, function-after_set, numbers_after, next-after_set, SameFunctions, same-ready, same-session, same-added, session-added, ways_by_functions}
+pub use Rattle.fh_dispatch.proofs.FetchLaws.{fetches_as_told}
 pub use Rattle.fh_dispatch.proofs.JobLaws.{jobs_as_asked, keeps_other_jobs, keeps_one_run, keeps_to_the_bound, brings_no_others}
 
 -- ---- answers

@@ -5,5 +5,6 @@ pub mod Jobs
 pub mod Scheduled
 mod Ways
 mod JobLaws
+mod FetchLaws
 pub mod Lawful
 pub mod Comparing

@@ -7,7 +7,11 @@ use Rattle.fh_event.specs.declared.reply.FetchedJob.{FetchedJob}
 use Rattle.fh_event.specs.declared.reply.Reply.TheVariants.{SessionBegun, Fetched}
 use Rattle.fh_event.specs.Judging.{Makes}
 use Rattle.fh_ncrontab.specs.Schedule.{are_masks}
+use Rattle.fh_queues.specs.declared.done.QueueDone.{QueueDone}
 use Rattle.fh_queues.specs.Asks as queues
+use Rattle.fh_queues.specs.Outcome as queue_outcome
+use Rattle.fh_queues.specs.Part.{QueuePart}
+use Rattle.fh_queues.specs.Tellings.{items_in}
 use Rattle.fh_timers.specs.declared.ask.TimerAsk.TheVariants.{Remove}
 use Rattle.fh_dispatch.specs.declared.done.WorkDone.{WorkDone}
 use Rattle.fh_dispatch.specs.declared.done.WorkDone.TheVariants as done
@@ -19,7 +23,7 @@ use Rattle.fh_dispatch.specs.Part.{WorkPart, Others, function_of, number_or}
 use Rattle.fh_dispatch.specs.declared.timer.Timer.{Timer as FunctionTimer}
 use Rattle.fh_dispatch.specs.Settings.{same_settings, has_other_trigger}
 use Rattle.fh_dispatch.specs.Asks.{Ask, Configure, Ready, Session, Fetch, Nothing}
-use Rattle.fh_dispatch.specs.Outcome.{configured, outcome}
+use Rattle.fh_dispatch.specs.Outcome.{configured, fetched_job, outcome}
 use Rattle.fh_dispatch.specs.Queues.{trigger_of, batch_of, asks_queues}
 use Rattle.fh_dispatch.specs.Timers.{timer_of, asks_timers}
 
@@ -220,3 +224,17 @@ KeepsTimers part m ask after answer =
 -- settings count as the same exactly where they are equal
 abbrev pub ComparesSettings : Type 0
 ComparesSettings = (one other : FunctionSettings) → (same_settings one other ≡ true) ↔ (one ≡ other)
+
+-- a fetch that changes something asks for its function's batch, and tells what the queues take for it
+pub record IsFetch (part : WorkPart) (others : Others) (name : List ℕ) (m : ℕ) (answer : WorkDone) : Type 0 where
+  pub trigger : Trigger
+  pub found : trigger_of name part.functions ≡ Some trigger
+  pub asks : asks_queues part others (Fetch name) ≡ Some (batch_of trigger)
+  pub told :
+      (taken : QueuePart) (given : QueueDone) → queue_outcome.outcome others.queues (batch_of trigger) m ≡ Makes taken given
+      → answer ≡ done.Told (Fetched (map fetched_job (items_in given)))
+
+abbrev pub FetchesAsTold : Type 0
+FetchesAsTold =
+    (part : WorkPart) (others : Others) (name : List ℕ) (m : ℕ) (after : WorkPart) (answer : WorkDone)
+    → outcome part others (Fetch name) m ≡ Makes after answer → IsFetch part others name m answer

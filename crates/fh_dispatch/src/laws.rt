@@ -2,7 +2,7 @@
 //! over every list of asks, from no functions on.
 
 ghost use Rattle.fh_dispatch.specs.Part.{no_work};
-ghost use Rattle.fh_dispatch.specs.Laws.{IsWhole, OfEachAsk, StaysWhole, KeepsNumbers, GivesNumbersInTurn, IsAsConfigured, KeepsUnnamed, HasJobsAsAsked, KeepsOtherJobs, KeepsOneRun, KeepsToTheBound, BringsNoOthers, AnswersTheAsk, MovesNumbers, AsksAsItSays, AsksOnlyToRemove, KeepsTimers, ComparesSettings};
+ghost use Rattle.fh_dispatch.specs.Laws.{IsWhole, OfEachAsk, StaysWhole, KeepsNumbers, GivesNumbersInTurn, IsAsConfigured, KeepsUnnamed, HasJobsAsAsked, KeepsOtherJobs, KeepsOneRun, KeepsToTheBound, BringsNoOthers, FetchesAsTold, AnswersTheAsk, MovesNumbers, AsksAsItSays, AsksOnlyToRemove, KeepsTimers, ComparesSettings};
 
 /// The numbers of functions were given, no two functions have one number, and a function that runs by a schedule
 /// has one.
@@ -51,6 +51,11 @@ pub fn one_run_stays_one()
 /// Behind each fetch a function has no more jobs in work than a batch beside its threshold.
 pub fn fetches_keep_to_the_bound()
     ensures { OfEachAsk KeepsToTheBound }
+{}
+
+/// A fetch that changes something asks the queues for a batch of its function's queue, and tells what they take.
+pub fn fetches_are_as_told()
+    ensures { FetchesAsTold }
 {}
 
 /// Only a fetch and a run that is made ready bring their function jobs.

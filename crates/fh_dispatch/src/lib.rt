@@ -35,7 +35,7 @@ pub use change::{StagedWork, WorkChange, WorkPlan};
 pub use done::WorkDone;
 pub use function::Function;
 pub use laws::{
-    asks_have_their_answers, counters_move_little, fetches_keep_to_the_bound,
+    asks_have_their_answers, counters_move_little, fetches_are_as_told, fetches_keep_to_the_bound,
     functions_are_as_configured, jobs_are_as_asked, numbers_are_given_in_turn, numbers_are_kept,
     one_run_stays_one, other_asks_bring_no_jobs, other_functions_stay, other_jobs_stay,
     parts_stay_whole, queues_are_asked_as_said, rows_are_only_removed, same_settings_are_equal,
