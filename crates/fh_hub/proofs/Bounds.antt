@@ -11,7 +11,7 @@ use Rattle.fh_blobs.specs.Laws.{new_versions}
 use Rattle.fh_blobs.proofs.Lawful.{moves_versions}
 use Rattle.fh_hub.specs.Asked.{asks_in}
 use Rattle.fh_dispatch.proofs.Lawful.{moves_numbers}
-use Rattle.fh_hub.specs.Stores.{Parts, Asks, Done}
+use Rattle.fh_hub.specs.Stores.{Parts, Asks, Done, others_of}
 use Rattle.fh_hub.specs.StoreEdits.{HasNumbers, IsOutcome, parts_of}
 use Rattle.fh_hub.proofs.Outcomes.{all_make}
 use Rattle.fh_hub.proofs.Steps.{asks_as_told}
@@ -32,7 +32,7 @@ has_numbers s bounded =
     record {
       queues = (omega (arith, bounded.number, bounded.within), omega (arith, bounded.receipt, square));
       blobs = omega (arith, bounded.version, bounded.within);
-      work = omega (arith, bounded.function, bounded.within);
+      work = (omega (arith, bounded.function, bounded.within), omega (arith, bounded.session, bounded.within));
     }
 
 -- no command takes more than one version
@@ -53,12 +53,16 @@ versions_within parts after done gate size is within =
     let few : new_versions is.asks.blobs ≤ 1 = subst (λ (a : Asks). new_versions a.blobs ≤ 1) (sym told) (few_versions parts is.command is.moment) in
     omega (arith, moves, few, within)
 
--- a function more stays within it
-pub functions_within : (parts after : Parts) (done : Done) (gate size : ℕ) → IsOutcome parts after done → parts.work.next_function ≤ gate
-    → after.work.next_function ≤ gate_behind gate size
-functions_within parts after done gate size is within =
-    let moves = moves_numbers parts.work is.asks.work is.moment after.work done.work (all_make parts is.asks is.moment after done is.is).work in
-    omega (arith, moves, within)
+-- a function and a session more stay within it
+pub record WorksWithin (after : Parts) (gate size : ℕ) : Type 0 where
+  pub functions : after.work.next_function ≤ gate_behind gate size
+  pub sessions : after.work.session ≤ gate_behind gate size
+
+pub works_within : (parts after : Parts) (done : Done) (gate size : ℕ) → IsOutcome parts after done → parts.work.next_function ≤ gate
+    → parts.work.session ≤ gate → WorksWithin after gate size
+works_within parts after done gate size is functions sessions =
+    let moves = moves_numbers parts.work (others_of parts) is.asks.work is.moment after.work done.work (all_make parts is.asks is.moment after done is.is).work in
+    record { functions = omega (arith, moves.0, functions); sessions = omega (arith, moves.1, sessions) }
 
 -- the gate stands behind the header
 pub begins : (s : HubState) → IsBounded s → 6 ≤ s.gate

@@ -29,8 +29,8 @@ use Rattle.fh_hub.specs.World.{World, empty, effective_moment}
 use Rattle.fh_hub.specs.Replay.{Entry, Event, trace, replay}
 use Rattle.fh_hub.specs.Places.{ends_after}
 use Rattle.fh_hub.specs.Holders.{granted_by, is_taken_by, unless_taken, last_grant, holds, IsHeldByOne}
-use Rattle.fh_hub.proofs.Steps.{Made, is_configure, is_timed, asked_plainly, IsKept, event, kept_by_all}
-use Rattle.fh_hub.proofs.Answering.{swept, nothing_done, queues_answered, work_rests, timers_rest}
+use Rattle.fh_hub.proofs.Steps.{Made, is_configure, is_timed, is_fetch, asked_plainly, IsKept, event, kept_by_all}
+use Rattle.fh_hub.proofs.Answering.{swept, works, nothing_done, queues_answered, work_rests, timers_rest}
 
 -- ---- grants
 
@@ -50,21 +50,21 @@ of_leases answer queues blobs timers work = rw (queues, blobs, timers, work) ref
 
 -- so it is where a command asks nothing of them
 alone : (w : World) (command : Command) (now : ℕ) (new : World) (reply : Reply) (made : Made w command now new reply)
-    → is_configure command ≡ false → is_timed command ≡ false → queue_ask_in w.parts command ≡ queue_asks.Sweep → blob_ask_in w.parts command ≡ blob_asks.Nothing
+    → is_configure command ≡ false → is_fetch command ≡ false → works command ≡ false → is_timed command ≡ false → queue_ask_in w.parts command ≡ queue_asks.Sweep → blob_ask_in w.parts command ≡ blob_asks.Nothing
     → reply ≡ reply_of_leases made.done.leases
-alone w command now new reply made plain untimed sweeps leaves =
+alone w command now new reply made plain apart rests untimed sweeps leaves =
     let m = effective_moment w now in
-    let queues = swept made.done.queues (subst (λ (a : queue_asks.Ask). queue_laws.answers a made.done.queues ≡ true) (asked_plainly w.parts command made.ask plain made.asked ∙ sweeps) (queues_answered w command now new reply made)) in
+    let queues = swept made.done.queues (subst (λ (a : queue_asks.Ask). queue_laws.answers a made.done.queues ≡ true) (asked_plainly w.parts command made.ask plain apart made.asked ∙ sweeps) (queues_answered w command now new reply made)) in
     let blobs = nothing_done made.done.blobs (subst (λ (a : blob_asks.Ask). blob_laws.answers a made.done.blobs ≡ true) leaves (blobs_answer w.parts.blobs (blob_ask_in w.parts command) m new.parts.blobs made.done.blobs made.blobs)) in
-    made.replies ∙ of_leases made.done queues blobs (timers_rest w command now new reply made plain untimed) (work_rests w command now new reply made plain untimed)
+    made.replies ∙ of_leases made.done queues blobs (timers_rest w command now new reply made plain untimed) (work_rests w command now new reply made rests untimed)
 
 grants_as_told : (x : List ℕ) (h : ℕ) (w : World) (command : Command) (now : ℕ) (new : World) (reply : Reply) (made : Made w command now new reply)
     → granted_by x h command reply ≡ granted x h (lease_ask command) made.done.leases
 grants_as_told x h w (Acquire lease holder seconds) now new reply made =
-    ap (granted_by x h (Acquire lease holder seconds)) (alone w (Acquire lease holder seconds) now new reply made refl refl refl refl)
+    ap (granted_by x h (Acquire lease holder seconds)) (alone w (Acquire lease holder seconds) now new reply made refl refl refl refl refl refl)
     ∙ by_acquire x h lease holder seconds made.done.leases
 grants_as_told x h w (RenewLease lease holder) now new reply made =
-    ap (granted_by x h (RenewLease lease holder)) (alone w (RenewLease lease holder) now new reply made refl refl refl refl)
+    ap (granted_by x h (RenewLease lease holder)) (alone w (RenewLease lease holder) now new reply made refl refl refl refl refl refl)
     ∙ by_renewal x h lease holder made.done.leases
 grants_as_told x h w (ReleaseLease lease holder) now new reply made = refl
 grants_as_told x h w command now new reply made = refl

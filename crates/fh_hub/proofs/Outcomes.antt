@@ -1,6 +1,6 @@
 -- What the stores do together is what each does.
 use Rattle.std.proofs.Common.{◌≡◌, ℕ, refl, ap, ◌∙◌, subst, Bool, true, false, List, [], ◌∷◌}
-use Rattle.std.specs.Prelude.{Result, Ok, Err, ⊤}
+use Rattle.std.specs.Prelude.{Result, Ok, Err, ⊤, if◌then◌else◌}
 use Rattle.fh_base.specs.declared.rule.Rule.{Rule}
 use Rattle.fh_event.specs.declared.faults.PlanFault.{PlanFault}
 use Rattle.fh_event.specs.declared.faults.PlanFault.TheVariants.{Rule as OfRule, NoMemory}
@@ -31,9 +31,10 @@ use Rattle.fh_dispatch.specs.declared.done.WorkDone.TheVariants as work_done
 use Rattle.fh_dispatch.specs.declared.act.Act.{Act as WorkAct}
 use Rattle.fh_dispatch.specs.Part.{WorkPart}
 use Rattle.fh_dispatch.specs.Outcome as work
+use Rattle.fh_dispatch.specs.Acts as work_acts
 use Rattle.fh_dispatch.specs.Edits as work_edits
 use Rattle.fh_dispatch.specs.Faults as work_faults
-use Rattle.fh_hub.specs.Stores.{Parts, Asks, Done, AllParts, AllDone, asked_timers, asked_queues, parts_with, done_with, of_all, led_by, joined, outcomes}
+use Rattle.fh_hub.specs.Stores.{Parts, Asks, Done, others_of, AllParts, AllDone, asked_timers, asked_queues, parts_with, done_with, of_all, led_by, joined, outcomes}
 use Rattle.fh_hub.specs.StoreEdits.{IsPlanOf, both_planned, IsOutcome}
 
 -- ---- plans
@@ -94,9 +95,12 @@ blobs_accepted : (part : BlobPart) (acts : List BlobAct) (done : BlobDone) → i
 blobs_accepted part acts blob_done.Noted = refl
 blobs_accepted part acts done = refl
 
-work_accepted : (part : WorkPart) (acts : List WorkAct) (done : WorkDone) → is_accepted (work_edits.judged part acts done) ≡ true
-work_accepted part acts work_done.Same = refl
-work_accepted part acts done = refl
+work_accepted : (part : WorkPart) (change : work_edits.Change) → is_accepted (work_edits.planned part change) ≡ true
+work_accepted part change = by_test change.quiet
+  where
+    by_test : (quiet : Bool) → is_accepted (if quiet then Quiets change.done else Makes (work_acts.by_acts part change.acts) change.done) ≡ true
+    by_test true = refl
+    by_test false = refl
 
 timers_accepted : (part : TimerPart) (act : TimerAct) (done : TimerDone) → is_accepted (timer_edits.judged part act done) ≡ true
 timers_accepted part act timer_done.Running = refl
@@ -114,7 +118,7 @@ led_refused (Makes part done) rule is = refl
 
 -- a fault of the work is that of the outcome
 pub fault_of_work : (parts : Parts) (asks : Asks) (m : ℕ) (fault : PlanFault)
-    → work_faults.IsPlanOf parts.work (work.outcome parts.work asks.work m) (Err fault) → IsPlanOf parts (outcomes parts asks m) (Err fault)
+    → work_faults.IsPlanOf parts.work (work.outcome parts.work (others_of parts) asks.work m) (Err fault) → IsPlanOf parts (outcomes parts asks m) (Err fault)
 unfolding outcomes
 fault_of_work parts asks m (OfRule rule) is =
     ap (λ judged. joined judged (timers.outcome parts.timers (asked_timers parts asks) m) (queues.outcome parts.queues (asked_queues parts asks) m) (blobs.outcome parts.blobs asks.blobs m) (leases.outcome parts.leases asks.leases m)) is
@@ -127,7 +131,7 @@ timers_plan part outcome (Err fault) is = absurd is
 -- where the work has a plan, so is a fault of a plan of the others
 module _ (parts : Parts) (asks : Asks) (m : ℕ) (of_work : work_edits.Change) (of_timers : Result timer_edits.Change PlanFault) (of_queues : Result queue_edits.Change PlanFault)
     (of_blobs : Result blob_edits.Change PlanFault) (of_leases : Result lease_edits.Change PlanFault)
-    (led : work.outcome parts.work asks.work m ≡ work_edits.planned parts.work of_work)
+    (led : work.outcome parts.work (others_of parts) asks.work m ≡ work_edits.planned parts.work of_work)
     (timed : timer_edits.IsPlanOf parts.timers (timers.outcome parts.timers (asked_timers parts asks) m) of_timers)
     (queued : Plans (queues.outcome parts.queues (asked_queues parts asks) m) (queue_edits.planned parts.queues) of_queues)
     (stored : Plans (blobs.outcome parts.blobs asks.blobs m) (blob_edits.planned parts.blobs) of_blobs)
@@ -161,9 +165,9 @@ module _ (parts : Parts) (asks : Asks) (m : ℕ) (of_work : work_edits.Change) (
   pub fault_of_all : (fault : PlanFault) → both_planned of_timers (both_planned of_queues (both_planned of_blobs of_leases)) ≡ Err fault → IsPlanOf parts (outcomes parts asks m) (Err fault)
   unfolding outcomes
   fault_of_all (OfRule rule) is =
-      ap of_all (ap (λ others. led_by (work.outcome parts.work asks.work m) others) (subst (Plans _ _) is whole)
+      ap of_all (ap (λ others. led_by (work.outcome parts.work (others_of parts) asks.work m) others) (subst (Plans _ _) is whole)
       ∙ ap (λ judged. led_by judged (Refuses rule)) led
-      ∙ led_refused (work_edits.planned parts.work of_work) rule (work_accepted parts.work of_work.acts of_work.done))
+      ∙ led_refused (work_edits.planned parts.work of_work) rule (work_accepted parts.work of_work))
   fault_of_all NoMemory is = tt
 
   -- and plans of all are the plan of the outcome
@@ -171,7 +175,7 @@ module _ (parts : Parts) (asks : Asks) (m : ℕ) (of_work : work_edits.Change) (
       → outcomes parts asks m ≡ joined (work_edits.planned parts.work of_work) (timer_edits.planned parts.timers c.0) (queue_edits.planned parts.queues c.1.0) (blob_edits.planned parts.blobs c.1.1.0) (lease_edits.planned parts.leases c.1.1.1)
   unfolding outcomes
   plan_of_all c is =
-      ap of_all (ap (λ others. led_by (work.outcome parts.work asks.work m) others) (subst (Plans _ _) is whole)
+      ap of_all (ap (λ others. led_by (work.outcome parts.work (others_of parts) asks.work m) others) (subst (Plans _ _) is whole)
       ∙ ap (λ judged. led_by judged (both (timer_edits.planned parts.timers c.0) (planned_queues c.1))) led)
 
 -- ---- changes
@@ -243,13 +247,13 @@ joined_make of_work of_timers of_queues of_blobs of_leases after done is =
 -- what all stores made of a command's asks
 abbrev pub MadeOf : Parts → Asks → ℕ → Parts → Done → Type 0
 MadeOf parts asks m after done =
-    MakesAll (work.outcome parts.work asks.work m) (timers.outcome parts.timers (asked_timers parts asks) m) (queues.outcome parts.queues (asked_queues parts asks) m)
+    MakesAll (work.outcome parts.work (others_of parts) asks.work m) (timers.outcome parts.timers (asked_timers parts asks) m) (queues.outcome parts.queues (asked_queues parts asks) m)
     (blobs.outcome parts.blobs asks.blobs m) (leases.outcome parts.leases asks.leases m) after done
 
 pub all_make : (parts : Parts) (asks : Asks) (m : ℕ) (after : Parts) (done : Done) → outcomes parts asks m ≡ Makes after done → MadeOf parts asks m after done
 unfolding outcomes
 all_make parts asks m after done is =
-    joined_make (work.outcome parts.work asks.work m) (timers.outcome parts.timers (asked_timers parts asks) m)
+    joined_make (work.outcome parts.work (others_of parts) asks.work m) (timers.outcome parts.timers (asked_timers parts asks) m)
     (queues.outcome parts.queues (asked_queues parts asks) m) (blobs.outcome parts.blobs asks.blobs m) (leases.outcome parts.leases asks.leases m) after done is
 
 pub is_outcome_of_queues : (parts after : Parts) (done : Done) → IsOutcome parts after done → queue_edits.IsOutcome parts.queues (after.queues, done.queues)

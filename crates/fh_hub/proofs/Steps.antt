@@ -6,11 +6,11 @@ use Rattle.fh_base.specs.Moments.{greatest_moment}
 use Rattle.fh_base.specs.declared.rule.Rule.{Rule}
 use Rattle.fh_base.specs.declared.rule.Rule.TheVariants.{MomentTooLate, BadName}
 use Rattle.fh_event.specs.declared.command.Command.{Command}
-use Rattle.fh_event.specs.declared.command.Command.TheVariants.{Note, Configure, Arm, Tick, Peek, GetBlob, Locate, Unnoted}
+use Rattle.fh_event.specs.declared.command.Command.TheVariants.{Note, Configure, Session, Arm, Tick, Fetch, Begin, Finish, Renewals, Peek, GetBlob, Locate, Unnoted}
 use Rattle.fh_event.specs.declared.reply.Item.{Item}
 use Rattle.fh_event.specs.declared.reply.Reply.{Reply}
 use Rattle.fh_event.specs.declared.reply.Reply.TheVariants as replies
-use Rattle.fh_event.specs.Entries.{entry, GivesGoodMasks}
+use Rattle.fh_event.specs.Entries.{entry, GivesGoodMasks, GivesShortList}
 use Rattle.fh_event.specs.Judging.{Judged}
 use Rattle.fh_event.specs.Judging as judging
 use Rattle.fh_queues.specs.Asks as queue_asks
@@ -30,14 +30,17 @@ use Rattle.fh_timers.specs.Outcome as timers
 use Rattle.fh_timers.specs.Part.{TimerPart}
 use Rattle.fh_timers.specs.Runs.{run_of}
 use Rattle.fh_timers.proofs.Lawful.{answers_the_ask as timers_answer}
+use Rattle.fh_dispatch.specs.declared.done.WorkDone.{WorkDone}
 use Rattle.fh_dispatch.specs.declared.timer.Timer.{Timer}
+use Rattle.fh_dispatch.specs.declared.trigger.Trigger.{Trigger}
+use Rattle.fh_dispatch.specs.Queues.{trigger_of, batch_of, asks_queues}
 use Rattle.fh_dispatch.specs.Asks as work_asks
 use Rattle.fh_dispatch.specs.Laws as work_laws
 use Rattle.fh_dispatch.specs.Timers.{timer_of}
-use Rattle.fh_dispatch.specs.Part.{function_of}
+use Rattle.fh_dispatch.specs.Part.{WorkPart, Others, function_of}
 use Rattle.fh_dispatch.specs.Outcome as work
-use Rattle.fh_dispatch.proofs.Lawful.{asks_only_to_make, asks_only_to_remove}
-use Rattle.fh_hub.specs.Stores.{Parts, Asks, Done, function_asked, run_made, ready_by, asked_timers, asked_queues, outcomes, too_full}
+use Rattle.fh_dispatch.proofs.Lawful.{asks_as_it_says, asks_only_to_remove, fetches_as_told}
+use Rattle.fh_hub.specs.Stores.{Parts, Asks, Done, others_of, function_asked, run_made, ready_by, asked_timers, asked_queues, outcomes, too_full}
 use Rattle.fh_hub.specs.Names.{has_good_names}
 use Rattle.fh_hub.specs.Asked.{Asked, Refuses, Reads, AsksAll, number_in, queue_ask_in, blob_ask_in, lease_ask, timer_ask_in, work_ask, asks_in, reads_items, reads_blob, works_on_blobs, unless_strange, unless_missing, unless_untimed, asked_of, unless_misnamed, asked}
 use Rattle.fh_hub.specs.Replies.{reply_of}
@@ -54,10 +57,18 @@ is_timed (Arm function) = true
 is_timed (Tick function) = true
 is_timed command = false
 
--- the queues are asked for what the command asks, or for the queue of a function that it configures
+abbrev pub is_fetch : Command → Bool
+is_fetch (Fetch function) = true
+is_fetch command = false
+
+-- the queues are asked for what the command asks, or for the queue of a function that it configures, or for the batch of
+-- one that fetches
 abbrev pub IsAskedOf : Parts → Command → queue_asks.Ask → Type 0
-IsAskedOf parts command ask =
-    (ask ≡ queue_ask_in parts command) ⊎ ((queue : List ℕ) × (ask ≡ queue_asks.Make queue) × (is_configure command ≡ true))
+IsAskedOf parts (Configure function settings) ask =
+    (ask ≡ queue_asks.Sweep) ⊎ ((queue : List ℕ) × (ask ≡ queue_asks.Make queue))
+IsAskedOf parts (Fetch function) ask =
+    (trigger : Trigger) × (trigger_of function parts.work.functions ≡ Some trigger) × (ask ≡ batch_of trigger)
+IsAskedOf parts command ask = ask ≡ queue_ask_in parts command
 
 -- what a command asks of all stores at this moment
 abbrev pub asks_at : World → Command → ℕ → Asks
@@ -72,28 +83,32 @@ pub record Made (w : World) (command : Command) (now : ℕ) (new : World) (reply
   pub blobs : blobs.outcome w.parts.blobs (blob_ask_in w.parts command) (effective_moment w now) ≡ judging.Makes new.parts.blobs done.blobs
   pub leases : leases.outcome w.parts.leases (lease_ask command) (effective_moment w now) ≡ judging.Makes new.parts.leases done.leases
   pub timers : timers.outcome w.parts.timers (asked_timers w.parts (asks_at w command now)) (effective_moment w now) ≡ judging.Makes new.parts.timers done.timers
-  pub work : work.outcome w.parts.work (asks_at w command now).work (effective_moment w now) ≡ judging.Makes new.parts.work done.work
+  pub work : work.outcome w.parts.work (others_of w.parts) (asks_at w command now).work (effective_moment w now) ≡ judging.Makes new.parts.work done.work
   pub replies : reply ≡ reply_of done
   pub last : new.last ≡ effective_moment w now
   pub timely : now ≤ greatest_moment
 
-pub sweeps : (parts : Parts) (command : Command) → is_configure command ≡ true → queue_ask_in parts command ≡ queue_asks.Sweep
-sweeps parts (Configure function settings) is = refl
-sweeps parts command is = absurd (cc)
-
 -- what is told of a sweep and of a queue that is made is told of what the queues were asked for
-pub as_asked : {A : Type 0} (parts : Parts) (command : Command) (ask : queue_asks.Ask) (of_ask : queue_asks.Ask → A) → IsAskedOf parts command ask
+pub as_asked : {A : Type 0} (parts : Parts) (command : Command) (ask : queue_asks.Ask) (of_ask : queue_asks.Ask → A)
+    → is_fetch command ≡ false → IsAskedOf parts command ask
     → ((queue : List ℕ) → of_ask queue_asks.Sweep ≡ of_ask (queue_asks.Make queue)) → of_ask (queue_ask_in parts command) ≡ of_ask ask
-as_asked parts command ask of_ask (inl is) same = ap of_ask (sym is)
-as_asked parts command ask of_ask (inr one) same = ap of_ask (sweeps parts command one.2) ∙ same one.0 ∙ ap of_ask (sym one.1)
+as_asked parts (Fetch function) ask of_ask plain is same = absurd (cc)
+as_asked parts (Configure function settings) ask of_ask plain is same =
+    elim is [
+      | inl swept ↦ ap of_ask (sym swept)
+      | inr one ↦ same one.0 ∙ ap of_ask (sym one.1)
+    ]
+as_asked parts command ask of_ask plain is same = ap of_ask (sym is)
 
 differ : {b : Bool} → b ≡ true → b ≡ false → ⊥
 differ holds fails = cc
 
--- a command that configures no function asks what it says
-pub asked_plainly : (parts : Parts) (command : Command) (ask : queue_asks.Ask) → is_configure command ≡ false → IsAskedOf parts command ask → ask ≡ queue_ask_in parts command
-asked_plainly parts command ask plain (inl is) = is
-asked_plainly parts command ask plain (inr one) = absurd (differ one.2 plain)
+-- a command that is about no function's queue asks what it says
+pub asked_plainly : (parts : Parts) (command : Command) (ask : queue_asks.Ask) → is_configure command ≡ false → is_fetch command ≡ false
+    → IsAskedOf parts command ask → ask ≡ queue_ask_in parts command
+asked_plainly parts (Configure function settings) ask plain apart is = absurd (differ refl plain)
+asked_plainly parts (Fetch function) ask plain apart is = absurd (differ refl apart)
+asked_plainly parts command ask plain apart is = is
 
 -- timers that are asked for nothing make no run
 pub no_run : (part : TimerPart) (m : ℕ) → run_made (timers.outcome part timer_asks.Nothing m) ≡ None
@@ -157,12 +172,31 @@ configures_by parts command m is = by_kind (is_timed command) refl
     by_kind false plain = sym (configures command) ∙ ap work_laws.is_configure (sym (work_asked parts command m plain)) ∙ is
     by_kind true timed = absurd (configures_nothing _ _ (ap work_laws.is_configure (sym (work_timed parts command m timed)) ∙ is))
 
-asked_of_queues : (parts : Parts) (command : Command) (m : ℕ) → IsAskedOf parts command (asked_queues parts (asks_in parts command m))
-asked_of_queues parts command m =
-    elim (asks_only_to_make parts.work parts.queues (asks_in parts command m).work) [
-      | inl none ↦ inl (ap (λ ask. unwrap_or ask (asks_in parts command m).queues) none ∙ queues_asked parts command m)
-      | inr one ↦ inr (one.0, ap (λ ask. unwrap_or ask (asks_in parts command m).queues) one.1, configures_by parts command m one.2)
+-- who asks at most that a run be ready asks nothing of the queues
+ready_asks_none : (part : WorkPart) (others : Others) (function : ℕ) (run : Option TimerRun)
+    → asks_queues part others (ready_by function run) ≡ None
+ready_asks_none part others function None = asks_as_it_says part others work_asks.Nothing
+ready_asks_none part others function (Some run) = asks_as_it_says part others (work_asks.Ready function run)
+
+asked_of_queues : (parts : Parts) (command : Command) (m : ℕ) (after : WorkPart) (answer : WorkDone)
+    → work.outcome parts.work (others_of parts) (asks_in parts command m).work m ≡ judging.Makes after answer
+    → IsAskedOf parts command (asked_queues parts (asks_in parts command m))
+asked_of_queues parts (Configure function settings) m after answer is =
+    elim (asks_as_it_says parts.work (others_of parts) (work_asks.Configure function settings)) [
+      | inl none ↦ inl (ap (λ ask. unwrap_or ask queue_asks.Sweep) none)
+      | inr one ↦ inr (one.0, ap (λ ask. unwrap_or ask queue_asks.Sweep) one.1)
     ]
+asked_of_queues parts (Fetch function) m after answer is =
+    let fetch = fetches_as_told parts.work (others_of parts) function m after answer is in
+    (fetch.trigger, fetch.found, ap (λ ask. unwrap_or ask queue_asks.Sweep) fetch.asks)
+asked_of_queues parts (Arm function) m after answer is =
+    ap (λ ask. unwrap_or ask queue_asks.Sweep) (ready_asks_none parts.work (others_of parts) _ _)
+asked_of_queues parts (Tick function) m after answer is =
+    ap (λ ask. unwrap_or ask queue_asks.Sweep) (ready_asks_none parts.work (others_of parts) _ _)
+asked_of_queues parts Session m after answer is =
+    ap (λ ask. unwrap_or ask queue_asks.Sweep) (asks_as_it_says parts.work (others_of parts) work_asks.Session)
+asked_of_queues parts command m after answer is =
+    ap (λ ask. unwrap_or ask (queue_ask_in parts command)) (asks_as_it_says parts.work (others_of parts) work_asks.Nothing)
 
 pub timer_ask_plain : (parts : Parts) (command : Command) → is_timed command ≡ false → timer_ask_in parts command ≡ timer_asks.Nothing
 timer_ask_plain parts (Arm function) plain = absurd (cc)
@@ -236,6 +270,9 @@ asked_of_command parts (Arm function) m all is =
     same_asks all (asks_in parts (Arm function) m) (untimed_asks_nothing (timer_of function parts.work.functions) _ all is)
 asked_of_command parts (Tick function) m all is =
     same_asks all (asks_in parts (Tick function) m) (untimed_asks_nothing (timer_of function parts.work.functions) _ all is)
+asked_of_command parts (Begin function high low) m all is = absurd (cc)
+asked_of_command parts (Finish invocation outcome) m all is = absurd (cc)
+asked_of_command parts Renewals m all is = absurd (cc)
 asked_of_command parts command m all is = same_asks all (asks_in parts command m) is
 
 -- what is asked is what the command says
@@ -248,6 +285,12 @@ pub masks_by_asks : (parts : Parts) (command : Command) (m : ℕ) (all : Asks) �
 masks_by_asks parts (Configure function settings) m all is good =
     subst (λ (a : Asks). work_asks.GivesGoodMasks a.work) (asks_as_told parts (Configure function settings) m all is) good
 masks_by_asks parts command m all is good = tt
+
+-- and no list that is too long
+pub list_by_asks : (parts : Parts) (command : Command) (m : ℕ) (all : Asks) → asked parts command m ≡ AsksAll all → GivesShortList command
+unfolding asked
+list_by_asks parts (Finish invocation outcome) m all is = absurd (cc)
+list_by_asks parts command m all is = tt
 
 module _ (w : World) (command : Command) (now : ℕ) (new : World) (reply : Reply) (in_time : nat_le now greatest_moment ≡ true) where
   abbrev m : ℕ
@@ -269,7 +312,7 @@ module _ (w : World) (command : Command) (now : ℕ) (new : World) (reply : Repl
       record {
         done = answer;
         ask = asked_queues w.parts (asks_at w command now);
-        asked = asked_of_queues w.parts command m;
+        asked = asked_of_queues w.parts command m new.parts.work answer.work did.work;
         queues = did.queues;
         blobs = ap (λ a. blobs.outcome w.parts.blobs a m) (sym (blobs_asked w.parts command m)) ∙ did.blobs;
         leases = ap (λ a. leases.outcome w.parts.leases a m) (sym (leases_asked w.parts command m)) ∙ did.leases;

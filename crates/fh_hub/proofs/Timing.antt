@@ -32,11 +32,11 @@ use Rattle.fh_dispatch.specs.Asks as work
 use Rattle.fh_dispatch.specs.Laws as work_specs
 use Rattle.fh_dispatch.specs.Laws.{number_of}
 use Rattle.fh_dispatch.specs.Part.{WorkPart, function_of}
-use Rattle.fh_dispatch.specs.Ready.{in_work, is_busy}
+use Rattle.fh_dispatch.specs.Ready.{is_busy, runs_in}
 use Rattle.fh_dispatch.specs.Timers.{timer_by, timer_found, timer_of, asks_timers}
 use Rattle.fh_dispatch.proofs.Lawful as work_laws
 use Rattle.fh_hub.specs.Asked.{arming, ticking, timer_ask_in, work_ask}
-use Rattle.fh_hub.specs.Stores.{Parts, function_asked, run_made, ready_by, asked_timers}
+use Rattle.fh_hub.specs.Stores.{Parts, others_of, function_asked, run_made, ready_by, asked_timers}
 use Rattle.fh_hub.specs.Replies.{reply_of_timers, reply_of_work, reply_of_stores, reply_of}
 use Rattle.fh_hub.specs.World.{World, empty, effective_moment}
 use Rattle.fh_hub.specs.Replay.{Entry, Event, trace, replay}
@@ -151,7 +151,7 @@ record Timed (events : List Event) (w : World) : Type 0 where
   rising : (f : ℕ) → Rising (due_times f events) w.last (next_of (row_of f w.parts.timers.timers))
   scheduled : (name : List ℕ) (timer : Timer) → timer_of name w.parts.work.functions ≡ Some timer
       → (time : ℕ) → next_of (row_of timer.function w.parts.timers.timers) ≡ Some time → IsScheduled timer time
-  one : (f : ℕ) → in_work f w.parts.work.ready ≤ 1
+  one : (f : ℕ) → runs_in f w.parts.work.ready ≤ 1
   due : All IsDueInTime events
 
 -- a due time is the next one that was stored, and then comes a later one
@@ -292,7 +292,7 @@ module _ (events : List Event) (w : World) (command : Command) (now : ℕ) (new 
   -- ---- rows of functions
 
   kept : (f : ℕ) → Owned w.parts.work f → Owned new.parts.work f
-  kept f owned = record { name = owned.name; is = work_laws.numbers_kept w.parts.work given m new.parts.work made.done.work h.work made.work owned.name f owned.is }
+  kept f owned = record { name = owned.name; is = work_laws.numbers_kept w.parts.work (others_of w.parts) given m new.parts.work made.done.work h.work made.work owned.name f owned.is }
 
   owned_after : (f : ℕ) (row : TimerRow) → row_of f new.parts.timers.timers ≡ Some row → Owned new.parts.work f
   owned_after f row is = by_timer (timer_in w.parts command) refl
@@ -336,7 +336,7 @@ module _ (events : List Event) (w : World) (command : Command) (now : ℕ) (new 
   stored_before : (name : List ℕ) (timer : Timer) (time : ℕ) → timer_of name new.parts.work.functions ≡ Some timer → next_of (row_of timer.function new.parts.timers.timers) ≡ Some time
       → next_of (row_of timer.function w.parts.timers.timers) ≡ Some time → IsScheduled timer time
   stored_before name timer time is next was =
-      elim (work_laws.keeps_timers w.parts.work given m new.parts.work made.done.work h.work made.work name timer is) [
+      elim (work_laws.keeps_timers w.parts.work (others_of w.parts) given m new.parts.work made.done.work h.work made.work name timer is) [
         | inl old ↦ old_schedule timer time name old was
         | inr more ↦ elim more [
           | inl fresh ↦ (let there = has_row (row_of timer.function w.parts.timers.timers) time was in absurd (not_new timer (h.owned timer.function there.0 there.1) fresh))
@@ -365,7 +365,7 @@ module _ (events : List Event) (w : World) (command : Command) (now : ℕ) (new 
           let named = name_of w.parts command other there in
           let owned : Owned w.parts.work timer.function = record { name = named.name; is = timer-number named.name w.parts.work other named.is ∙ ap (λ (n : ℕ). Some n) number } in
           let found : IsScheduled other time = record { second = by.second; at = by.at; scheduled = by.scheduled } in
-          elim (work_laws.keeps_timers w.parts.work given m new.parts.work made.done.work h.work made.work name timer is) [
+          elim (work_laws.keeps_timers w.parts.work (others_of w.parts) given m new.parts.work made.done.work h.work made.work name timer is) [
             | inl old ↦ of_schedule other timer time (one_timer name timer other old named number) found
             | inr more ↦ elim more [
               | inl fresh ↦ absurd (not_new timer owned fresh)
@@ -428,12 +428,12 @@ module _ (events : List Event) (w : World) (command : Command) (now : ℕ) (new 
           subst (work_specs.FindsNoJob w.parts.work) (sym (work_timed w.parts command m kind))
           (by_found (timer_in w.parts command) refl (run_made (timers.outcome w.parts.timers own m)) refl)
 
-  one_after : (f : ℕ) → in_work f new.parts.work.ready ≤ 1
-  one_after f = work_laws.keeps_one_job w.parts.work given m new.parts.work made.done.work h.work made.work finds_none f (h.one f)
+  one_after : (f : ℕ) → runs_in f new.parts.work.ready ≤ 1
+  one_after f = work_laws.keeps_one_run w.parts.work (others_of w.parts) given m new.parts.work made.done.work h.work made.work finds_none f (h.one f)
 
   timed_after : Timed (events ++ e ∷ []) new
   timed_after = record {
-    work = work_laws.Whole-outcome w.parts.work given m new.parts.work made.done.work h.work made.work;
+    work = work_laws.Whole-outcome w.parts.work (others_of w.parts) given m new.parts.work made.done.work h.work made.work;
     timers = timer_laws.Whole-outcome w.parts.timers ask m new.parts.timers made.done.timers h.timers early made.timers;
     timely = omega (arith, made.last, early);
     owned = owned_after;

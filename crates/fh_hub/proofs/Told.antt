@@ -6,7 +6,7 @@ use Rattle.std.proofs.lemmas.Bool.Decides.{nat_tests}
 use Rattle.std.proofs.lemmas.List.Sums.{fold_push, sum_by_push}
 use Rattle.std.proofs.lemmas.List.Recursion.{or_push}
 use Rattle.fh_event.specs.declared.command.Command.{Command}
-use Rattle.fh_event.specs.declared.command.Command.TheVariants.{Put, Take, Update, Delete, Clear, Note}
+use Rattle.fh_event.specs.declared.command.Command.TheVariants.{Put, Take, Update, Delete, Clear, Note, Fetch}
 use Rattle.fh_event.specs.declared.reply.Reply.{Reply}
 use Rattle.fh_queues.specs.declared.row.Message.{Message}
 use Rattle.fh_queues.specs.declared.done.QueueDone.{QueueDone}
@@ -25,16 +25,16 @@ use Rattle.fh_queues.specs.Seen.{Seen, Unborn, Stands, Ended, seen_by, seen}
 use Rattle.fh_queues.specs.Whole.{IsWhole}
 use Rattle.fh_queues.specs.Receipts.{born, given}
 use Rattle.fh_queues.specs.Goings.{answered, deletes, newly, goes_on}
-use Rattle.fh_queues.specs.Tellings.{items_in, lists, own_hold, newer, hold_given, queue_given, expiry_given, removes, IsNew, TellsOfMessages}
+use Rattle.fh_queues.specs.Tellings.{items_in, lists as lists_item, own_hold, newer, hold_given, queue_given, expiry_given, removes, IsNew, TellsOfMessages}
 use Rattle.fh_queues.proofs.Lawful.{Whole-none, Whole-outcome, row_seen, goes_as_answered, gives_numbers, gives_receipts, moves_little, tells}
 use Rattle.fh_hub.specs.World.{World, empty, effective_moment}
 use Rattle.fh_hub.specs.Asked.{queue_ask_in}
 use Rattle.fh_hub.specs.Stores.{Parts}
 use Rattle.fh_hub.specs.Replay.{Entry, Event, trace, replay}
-use Rattle.fh_hub.specs.Signs.{signs_of, signs, items_of, has_receipt, gives, bears}
+use Rattle.fh_hub.specs.Signs.{signs_of, signs, lists, has_receipt, gives, bears}
 use Rattle.fh_hub.specs.Laws.{births, receipts}
 use Rattle.fh_hub.specs.Places.{birth_of, expiry_by, queue_by, expiry_of, queue_of, last_hold, was_removed}
-use Rattle.fh_hub.proofs.Steps.{Made, as_asked, IsKept, event, kept_by_all}
+use Rattle.fh_hub.proofs.Steps.{Made, IsAskedOf, as_asked, IsKept, event, kept_by_all}
 use Rattle.fh_hub.proofs.Answering.{HasOwnReceipt, Tells, queues_answered, reply_tells}
 use Rattle.fh_hub.proofs.Births.{birth_now, birth_then}
 
@@ -71,28 +71,32 @@ pub record Told (events : List Event) (w : World) : Type 0 where
   pub receipts : (k : ℕ) → receipts k events ≡ once_below w.parts.queues.next_receipt k
   pub seen : (n : ℕ) → IsSeenBy n events w.last (seen n w.parts.queues)
 
-hold_as_told : (parts : Parts) (n m : ℕ) (command : Command) (reply : Reply) (answer : QueueDone) → items_of reply ≡ items_in answer → (signs_of parts m command reply).hold n ≡ hold_given n m (queue_ask_in parts command) answer
-hold_as_told parts n m (Put queue delay ttl text) reply answer items = refl
-hold_as_told parts n m (Take queue count hold) reply answer items = ap (λ among. if lists n among then Some (after m hold) else None) items
-hold_as_told parts n m (Update queue number receipt hold text) reply answer items = refl
-hold_as_told parts n m (Delete queue number receipt) reply answer items = refl
-hold_as_told parts n m (Clear queue) reply answer items = refl
-hold_as_told parts n m command reply answer items = refl
+-- until when a message is held is what is told of it
+hold_as_told : (parts : Parts) (n m : ℕ) (command : Command) (reply : Reply) (ask : Ask) (answer : QueueDone) → IsAskedOf parts command ask
+    → lists n reply ≡ lists_item n (items_in answer) → (signs_of parts m command reply).hold n ≡ hold_given n m ask answer
+hold_as_told parts n m (Fetch function) reply ask answer asked listed =
+    ap (λ among. if among then Some (after m 600) else None) listed ∙ sym (ap (λ a. hold_given n m a answer) asked.2)
+hold_as_told parts n m (Take queue count hold) reply ask answer asked listed =
+    ap (λ among. if among then Some (after m hold) else None) listed ∙ sym (ap (λ a. hold_given n m a answer) asked)
+hold_as_told parts n m command reply ask answer asked listed = as_asked parts command ask (λ a. hold_given n m a answer) refl asked (λ queue. refl)
 
-removes_as_told : (parts : Parts) (n m : ℕ) (command : Command) (reply : Reply) → (signs_of parts m command reply).removes n ≡ removes n m parts.queues.rows (queue_ask_in parts command)
-removes_as_told parts n m (Delete queue number receipt) reply = refl
-removes_as_told parts n m (Clear queue) reply = refl
-removes_as_told parts n m command reply = refl
+removes_as_told : (parts : Parts) (n m : ℕ) (command : Command) (reply : Reply) (ask : Ask) → IsAskedOf parts command ask
+    → (signs_of parts m command reply).removes n ≡ removes n m parts.queues.rows ask
+removes_as_told parts n m (Fetch function) reply ask asked = sym (ap (removes n m parts.queues.rows) asked.2)
+removes_as_told parts n m command reply ask asked = as_asked parts command ask (removes n m parts.queues.rows) refl asked (λ queue. refl)
 
 -- the queue and the expiry that a command gives
-record IsBirth (parts : Parts) (m : ℕ) (command : Command) (reply : Reply) : Type 0 where
-  pub queue : (signs_of parts m command reply).queue ≡ queue_given (queue_ask_in parts command)
-  pub expiry : (signs_of parts m command reply).expiry ≡ expiry_given m (queue_ask_in parts command)
+record IsBirth (parts : Parts) (m : ℕ) (command : Command) (reply : Reply) (ask : Ask) : Type 0 where
+  pub queue : (signs_of parts m command reply).queue ≡ queue_given ask
+  pub expiry : (signs_of parts m command reply).expiry ≡ expiry_given m ask
 
-birth_as_told : (parts : Parts) (m : ℕ) (command : Command) (reply : Reply) → IsBirth parts m command reply
-birth_as_told parts m (Put queue delay ttl text) reply = record { queue = refl; expiry = refl }
-birth_as_told parts m (Note function container blob) reply = record { queue = refl; expiry = refl }
-birth_as_told parts m command reply = record { queue = refl; expiry = refl }
+birth_as_told : (parts : Parts) (m : ℕ) (command : Command) (reply : Reply) (ask : Ask) → IsAskedOf parts command ask → IsBirth parts m command reply ask
+birth_as_told parts m (Fetch function) reply ask asked =
+    record { queue = sym (ap queue_given asked.2); expiry = sym (ap (expiry_given m) asked.2) }
+birth_as_told parts m command reply ask asked = record {
+  queue = as_asked parts command ask queue_given refl asked (λ queue. refl);
+  expiry = as_asked parts command ask (expiry_given m) refl asked (λ queue. refl);
+}
 
 -- what has expired at a moment has at each later one
 pub expired_later : (m later : ℕ) (expiry : Option ℕ) → m ≤ later → is_before m expiry ≡ false → is_before later expiry ≡ false
@@ -208,12 +212,12 @@ module _ (events : List Event) (w : World) (command : Command) (now : ℕ) (new 
   last_hold_is : (n : ℕ) → last_hold n more ≡ newer (last_hold n events) (hold_given n m ask answer)
   last_hold_is n =
       fold_push (λ held (x : Event). newer held ((signs x).hold n)) None events e
-      ∙ ap (newer (last_hold n events)) (hold_as_told w.parts n m command reply answer tellings.items ∙ as_asked w.parts command ask (λ a. hold_given n m a answer) made.asked (λ queue. refl))
+      ∙ ap (newer (last_hold n events)) (hold_as_told w.parts n m command reply ask answer made.asked (tellings.lists n))
 
   removed_is : (n : ℕ) → was_removed n more ≡ (was_removed n events || removes n m w.parts.queues.rows ask)
   removed_is n =
       or_push (list_any (λ (x : Event). (signs x).removes n)) (λ (x : Event). (signs x).removes n) refl (λ x xs. refl) events e
-      ∙ ap (λ r. was_removed n events || r) (removes_as_told w.parts n m command reply ∙ as_asked w.parts command ask (removes n m w.parts.queues.rows) made.asked (λ queue. refl))
+      ∙ ap (λ r. was_removed n events || r) (removes_as_told w.parts n m command reply ask made.asked)
 
   not_removed : (n : ℕ) → was_removed n events ≡ false → removes n m w.parts.queues.rows ask ≡ false → was_removed n more ≡ false
   not_removed n before by = removed_is n ∙ ap (λ r. r || removes n m w.parts.queues.rows ask) before ∙ by
@@ -252,13 +256,11 @@ module _ (events : List Event) (w : World) (command : Command) (now : ℕ) (new 
       first row one =
           let bearing : bears n e.reply ≡ true = tellings.births n ∙ one.born in
           let birth : birth_of n more ≡ Some e = birth_now n events e was.0 bearing in
-          let gave = birth_as_told w.parts m command reply in
-          let in_queue = as_asked w.parts command ask queue_given made.asked (λ queue. refl) in
-          let expires = as_asked w.parts command ask (expiry_given m) made.asked (λ queue. refl) in
+          let gave = birth_as_told w.parts m command reply ask made.asked in
           record {
             born = births_push n ∙ ap (λ b. births n events + (if b then 1 else 0)) one.born ∙ ap (λ k. k + 1) was.0;
-            queue = one.queue ∙ sym (ap queue_by birth ∙ gave.queue ∙ in_queue);
-            expiry = one.expiry ∙ sym (ap expiry_by birth ∙ gave.expiry ∙ expires);
+            queue = one.queue ∙ sym (ap queue_by birth ∙ gave.queue);
+            expiry = one.expiry ∙ sym (ap expiry_by birth ∙ gave.expiry);
             hold = one.unheld ∙ sym unheld;
             stays = not_removed n was.2 none.1;
           }

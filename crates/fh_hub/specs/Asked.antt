@@ -1,9 +1,9 @@
 -- What a command asks of the stores.
 use Rattle.std.specs.Prelude.{ℕ, Bool, true, false, if◌then◌else◌, List, Option, Some, None, Result, Ok, Err}
 use Rattle.fh_base.specs.declared.rule.Rule.{Rule}
-use Rattle.fh_base.specs.declared.rule.Rule.TheVariants.{BadName, NoSuchFunction, BlobNotFound}
+use Rattle.fh_base.specs.declared.rule.Rule.TheVariants.{BadName, NoSuchFunction, BlobNotFound, NoSuchInvocation}
 use Rattle.fh_event.specs.declared.command.Command.{Command}
-use Rattle.fh_event.specs.declared.command.Command.TheVariants.{MakeQueue, Put, Take, Update, Delete, Clear, PutBlob, DeleteBlob, Note, Acquire, RenewLease, ReleaseLease, Configure, Arm, Tick, Peek, GetBlob, Locate, Unnoted}
+use Rattle.fh_event.specs.declared.command.Command.TheVariants.{MakeQueue, Put, Take, Update, Delete, Clear, PutBlob, DeleteBlob, Note, Acquire, RenewLease, ReleaseLease, Configure, Session, Arm, Tick, Fetch, Begin, Finish, Renewals, Peek, GetBlob, Locate, Unnoted}
 use Rattle.fh_event.specs.declared.settings.FunctionSettings.{FunctionSettings}
 use Rattle.fh_event.specs.declared.settings.FunctionSettings.TheVariants as forms
 use Rattle.fh_event.specs.declared.reply.Item.{Item}
@@ -24,8 +24,7 @@ use Rattle.fh_dispatch.specs.declared.function.Function.{Function}
 use Rattle.fh_dispatch.specs.declared.timer.Timer.{Timer}
 use Rattle.fh_dispatch.specs.Asks as work
 use Rattle.fh_dispatch.specs.Notes.{note_text}
-use Rattle.fh_dispatch.specs.Part.{WorkPart, function_of}
-use Rattle.fh_dispatch.specs.Outcome.{number_or}
+use Rattle.fh_dispatch.specs.Part.{WorkPart, function_of, number_or}
 use Rattle.fh_dispatch.specs.Queues.{inner_queue}
 use Rattle.fh_dispatch.specs.Ready.{is_busy}
 use Rattle.fh_dispatch.specs.Timers.{timer_of}
@@ -84,6 +83,8 @@ lease_ask command = leases.Nothing
 
 abbrev pub work_ask : Command → work.Ask
 work_ask (Configure function settings) = work.Configure function settings
+work_ask Session = work.Session
+work_ask (Fetch function) = work.Fetch function
 work_ask command = work.Nothing
 
 -- what a command asks of each store by itself
@@ -189,6 +190,10 @@ asked_of parts (Arm function) m =
     unless_untimed (timer_of function parts.work.functions) (AsksAll (asks_in parts (Arm function) m))
 asked_of parts (Tick function) m =
     unless_untimed (timer_of function parts.work.functions) (AsksAll (asks_in parts (Tick function) m))
+-- no invocation runs yet
+asked_of parts (Begin function high low) m = Refuses NoSuchFunction
+asked_of parts (Finish invocation outcome) m = Refuses NoSuchInvocation
+asked_of parts Renewals m = Reads replies.NothingDue
 asked_of parts (Peek queue count) m = reads_items (peeked parts.queues queue count m)
 asked_of parts (GetBlob container blob) m = reads_blob (blob_of container blob parts.blobs.blobs)
 asked_of parts (Locate number) m = Reads (replies.Located (place_of parts.queues number m))

@@ -63,6 +63,7 @@ abbrev pub reply_of_work : Reply → WorkDone → Reply
 reply_of_work reply (work.Configured number) = replies.Configured number
 reply_of_work reply work.Same = replies.Same
 reply_of_work reply work.Ready = reply
+reply_of_work reply (work.Told told) = told
 reply_of_work reply work.Nothing = reply
 
 -- the reply where work and timers did nothing

@@ -2,15 +2,16 @@
 use Rattle.std.specs.Prelude.{ℕ, ◌==◌, Bool, false, ◌&&◌, if◌then◌else◌, List, [], count_by, Option, Some, None, is_some}
 use Rattle.std.specs.List.{list_any}
 use Rattle.fh_event.specs.declared.command.Command.{Command}
-use Rattle.fh_event.specs.declared.command.Command.TheVariants.{Put, Take, Update, Delete, Clear, Note}
-use Rattle.fh_event.specs.declared.reply.Item.{Item}
+use Rattle.fh_event.specs.declared.command.Command.TheVariants.{Put, Take, Update, Delete, Clear, Note, Fetch}
 use Rattle.fh_event.specs.declared.reply.Reply.{Reply}
-use Rattle.fh_event.specs.declared.reply.Reply.TheVariants.{Stored, Taken, Updated, Noted}
+use Rattle.fh_event.specs.declared.reply.Reply.TheVariants.{Stored, Taken, Updated, Noted, Fetched}
 use Rattle.fh_queues.specs.declared.row.Message.{Message}
 use Rattle.fh_queues.specs.Rows.{is_of, is_visible, row_in, row_of}
 use Rattle.fh_queues.specs.Outcome.{after, expiry_after}
 use Rattle.fh_queues.specs.Receipts.{is_named}
-use Rattle.fh_dispatch.specs.Queues.{inner_queue}
+use Rattle.fh_dispatch.specs.declared.trigger.Trigger.{Trigger}
+use Rattle.fh_dispatch.specs.Part.{WorkPart}
+use Rattle.fh_dispatch.specs.Queues.{inner_queue, trigger_of}
 use Rattle.fh_hub.specs.Stores.{Parts}
 use Rattle.fh_hub.specs.Asked.{number_in}
 use Rattle.fh_hub.specs.World.{effective_moment}
@@ -30,24 +31,34 @@ pub record Signs : Type 0 where
 abbrev pub no_signs : Signs
 no_signs = record { queue = []; expiry = None; hold = λ n. None; removes = λ n. false; acts_on = λ row. false }
 
--- the messages that a reply lists as taken
-abbrev pub items_of : Reply → List Item
-items_of (Taken items) = items
-items_of reply = []
+-- the reply lists the message of this number as taken, or as fetched
+abbrev pub lists : ℕ → Reply → Bool
+lists n (Taken items) = list_any (λ item. item.number == n) items
+lists n (Fetched jobs) = list_any (λ job. job.number == n) jobs
+lists n reply = false
 
-abbrev pub lists : ℕ → List Item → Bool
-lists n items = list_any (λ item. item.number == n) items
+-- the queue of a function that works on messages
+abbrev pub queue_found : Option Trigger → List ℕ
+queue_found None = []
+queue_found (Some trigger) = trigger.queue
 
--- a put gives its queue and its expiry, and a note the queue of its function, a take holds what it lists, an update holds
--- what it names, a delete removes what it names with its newest receipt, and a clear removes the live rows of its queue
+abbrev pub queue_in : WorkPart → List ℕ → List ℕ
+queue_in part function = queue_found (trigger_of function part.functions)
+
+-- a put gives its queue and its expiry, and a note the queue of its function, a take and a fetch hold what they list, an
+-- update holds what it names, a delete removes what it names with its newest receipt, and a clear removes the live rows of its queue
 abbrev pub signs_of : Parts → ℕ → Command → Reply → Signs
 signs_of parts m (Put queue delay ttl text) reply = record no_signs { queue = queue; expiry = expiry_after m ttl }
 signs_of parts m (Note function container blob) reply = record no_signs {
   queue = inner_queue (number_in parts.work function);
 }
 signs_of parts m (Take queue count hold) reply = record no_signs {
-  hold = λ n. if lists n (items_of reply) then Some (after m hold) else None;
-  acts_on = λ row. is_visible queue m row && lists row.number (items_of reply);
+  hold = λ n. if lists n reply then Some (after m hold) else None;
+  acts_on = λ row. is_visible queue m row && lists row.number reply;
+}
+signs_of parts m (Fetch function) reply = record no_signs {
+  hold = λ n. if lists n reply then Some (after m 600) else None;
+  acts_on = λ row. is_visible (queue_in parts.work function) m row && lists row.number reply;
 }
 signs_of parts m (Update queue number receipt hold text) reply = record no_signs {
   hold = λ n. if number == n then Some (after m hold) else None;
@@ -79,6 +90,7 @@ has_receipt k (Some row) = if row.receipt == k then 1 else 0
 abbrev pub gives_by : ℕ → List Message → Reply → ℕ
 gives_by k rows (Stored number receipt) = if receipt == k then 1 else 0
 gives_by k rows (Taken items) = count_by (λ item. item.receipt == k) items
+gives_by k rows (Fetched jobs) = count_by (λ job. job.receipt == k) jobs
 gives_by k rows (Updated receipt) = if receipt == k then 1 else 0
 gives_by k rows (Noted number) = has_receipt k (row_of number rows)
 gives_by k rows reply = 0

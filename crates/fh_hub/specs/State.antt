@@ -2,7 +2,7 @@
 use Rattle.std.specs.Prelude.{◌≡◌, ℕ, ◌*◌, ◌≤◌, List, length, None}
 use Rattle.fh_base.specs.Moments.{greatest_moment}
 use Rattle.fh_base.specs.Limits.{longest_payload}
-use Rattle.fh_event.specs.Entries.{HasShortTexts, GivesGoodMasks}
+use Rattle.fh_event.specs.Entries.{HasShortTexts, GivesGoodMasks, GivesShortList}
 use Rattle.fh_journal.specs.Journal.{opened, full_at, most_bytes}
 use Rattle.fh_hub.specs.Stores.{Parts, Done}
 use Rattle.fh_hub.specs.StoreEdits.{StoresState, parts_of}
@@ -30,6 +30,7 @@ pub record IsBounded (s : HubState) : Type 0 where
   pub receipt : s.stores.queues.part.next_receipt ≤ s.gate * s.gate
   pub version : s.stores.blobs.part.next_version ≤ s.gate
   pub function : s.stores.work.part.next_function ≤ s.gate
+  pub session : s.stores.work.part.session ≤ s.gate
 
 -- the world is that of the history, which is legal
 pub record IsFaithful (s : HubState) : Type 0 where
@@ -52,5 +53,6 @@ pub record IsPlanned (s : HubState) (made : Parts) (done : Done) (e : Entry) : T
   pub outcome : store_edits.IsOutcome (parts_of s.stores) made done
   pub texts : HasShortTexts e.command
   pub masks : GivesGoodMasks e.command
+  pub list : GivesShortList e.command
   pub short : length (bytes_of e) ≤ longest_payload
   pub room : full_at s.gate (length (bytes_of e)) ≡ None

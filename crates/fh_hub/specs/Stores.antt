@@ -23,7 +23,7 @@ use Rattle.fh_timers.specs.Outcome as timers
 use Rattle.fh_timers.specs.Runs.{run_of}
 use Rattle.fh_dispatch.specs.declared.done.WorkDone.{WorkDone}
 use Rattle.fh_dispatch.specs.Asks as work_asks
-use Rattle.fh_dispatch.specs.Part.{WorkPart, no_work}
+use Rattle.fh_dispatch.specs.Part.{WorkPart, Others, no_work}
 use Rattle.fh_dispatch.specs.Queues.{asks_queues}
 use Rattle.fh_dispatch.specs.Timers.{asks_timers}
 use Rattle.fh_dispatch.specs.Outcome as work
@@ -75,8 +75,12 @@ ready_by function (Some run) = work_asks.Ready function run
 abbrev pub asked_timers : Parts → Asks → TimerAsk
 asked_timers parts asks = unwrap_or (asks_timers parts.work asks.work) asks.timers
 
+-- the parts at which the work looks
+abbrev pub others_of : Parts → Others
+others_of parts = record { queues = parts.queues }
+
 abbrev pub asked_queues : Parts → Asks → queue_asks.Ask
-asked_queues parts asks = unwrap_or (asks_queues parts.work parts.queues asks.work) asks.queues
+asked_queues parts asks = unwrap_or (asks_queues parts.work (others_of parts) asks.work) asks.queues
 
 -- what all stores make, and what they answer, the work first, which asks others
 abbrev pub AllParts : Type 0
@@ -120,7 +124,7 @@ joined of_work of_timers of_queues of_blobs of_leases =
 
 unfoldable pub outcomes : Parts → Asks → ℕ → Judged Parts Done
 outcomes parts asks m =
-    joined (work.outcome parts.work asks.work m) (timers.outcome parts.timers (asked_timers parts asks) m)
+    joined (work.outcome parts.work (others_of parts) asks.work m) (timers.outcome parts.timers (asked_timers parts asks) m)
     (queues.outcome parts.queues (asked_queues parts asks) m) (blobs.outcome parts.blobs asks.blobs m)
     (leases.outcome parts.leases asks.leases m)
 

@@ -53,7 +53,12 @@ impl<'a> Asked<'a> {
             | Command::Acquire { .. }
             | Command::RenewLease { .. }
             | Command::ReleaseLease { .. }
-            | Command::Configure { .. } => Ok(Asked::changing(command)),
+            | Command::Configure { .. }
+            | Command::Session
+            | Command::Fetch { .. } => Ok(Asked::changing(command)),
+            Command::Begin { .. } => Ok(Asked::Refuses(Rule::NoSuchFunction)),
+            Command::Finish { .. } => Ok(Asked::Refuses(Rule::NoSuchInvocation)),
+            Command::Renewals => Ok(Asked::Reads(Reply::NothingDue)),
             Command::Note {
                 function,
                 container,

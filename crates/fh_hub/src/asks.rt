@@ -202,6 +202,10 @@ fn work_ask<'a>(command: &'a Command) -> Option<WorkAsk<'a>>
             function: function.as_str(),
             settings,
         }),
+        Command::Session => Some(WorkAsk::Session),
+        Command::Fetch { function } => Some(WorkAsk::Fetch {
+            function: function.as_str(),
+        }),
         _ => Some(WorkAsk::Nothing),
     }
 }

@@ -72,6 +72,7 @@ fn reply_of_work(reply: Reply, done: WorkDone) -> Reply
     match done {
         WorkDone::Configured { number } => Reply::Configured { number },
         WorkDone::Same => Reply::Same,
+        WorkDone::Told { reply } => reply,
         WorkDone::Ready | WorkDone::Nothing => reply,
     }
 }

@@ -1,7 +1,7 @@
 // What a hub keeps in memory.
 ghost use Rattle.std.specs.Prelude.{◌≡◌, ℕ, ◌-◌, ◌^◌, ◌≤◌, ◌∷◌, ◌++◌, [], min, max, length, IfOk, IfErr, OnErr};
 ghost use Rattle.fh_base.specs.Moments.{greatest_moment};
-ghost use Rattle.fh_event.specs.Entries.{IsEntry, HasShortTexts, GivesGoodMasks};
+ghost use Rattle.fh_event.specs.Entries.{IsEntry, HasShortTexts, GivesGoodMasks, GivesShortList};
 ghost use Rattle.fh_journal.specs.Journal.{gate_behind};
 ghost use Rattle.fh_queues.specs.Places.{place_of};
 ghost use Rattle.fh_hub.specs.Asked.{AsksAll, asked};
@@ -260,6 +260,7 @@ fn size_rule(size: u64) -> Option<Rule>
 pub(crate) fn payload_of(alloc: Global, command: &Command, m: Moment) -> Result<Bytes, NoMemory>
     requires texts { HasShortTexts command.now }
     requires masks { GivesGoodMasks command.now }
+    requires list { GivesShortList command.now }
     ensures spelled { IfOk result (λ payload. IsEntry payload m command.now) }
     ensures entry { IfOk result (λ payload. entry_of payload ≡ entry_for command.now m) }
 {

@@ -17,7 +17,7 @@ ghost use Rattle.fh_dispatch.specs.Queues.{asks_queues};
 ghost use Rattle.fh_dispatch.specs.Ready.{is_busy};
 ghost use Rattle.fh_dispatch.specs.Timers.{asks_timers, timer_of};
 ghost use Rattle.fh_dispatch.specs.Part.{function_of};
-ghost use Rattle.fh_hub.specs.Stores.{Parts, no_parts, run_made, asked_queues, asked_timers, outcomes, too_full};
+ghost use Rattle.fh_hub.specs.Stores.{Parts, others_of, no_parts, run_made, asked_queues, asked_timers, outcomes, too_full};
 ghost use Rattle.fh_hub.specs.StoreEdits.{parts_of, asks_of, done_of, planned, changed, answered, both_planned, IsPlanOf, made, made_done, IsOutcome, HasNumbers, IsIdle, IsStaged};
 
 use fh_base::{Moment, NoMemory, QueueName, Rule, Text};
@@ -225,9 +225,9 @@ impl Stores {
         requires idle { IsIdle self.now }
         requires numbers { HasNumbers (parts_of self.now) }
         ensures work { work_faults.IsPlanOf self.now.work.part
-            (work_outcome.outcome self.now.work.part (asks_of asks.now).work m) result }
+            (work_outcome.outcome self.now.work.part (others_of (parts_of self.now)) (asks_of asks.now).work m) result }
         ensures queues { IfOk result (λ plan. IsQueuesPlanOf self.now.queues.part
-            (asks_queues self.now.work.part self.now.queues.part (asks_of asks.now).work) m plan.queues) }
+            (asks_queues self.now.work.part (others_of (parts_of self.now)) (asks_of asks.now).work) m plan.queues) }
         ensures timers { IfOk result (λ plan. IsTimersPlanOf self.now.timers.part
             (asks_timers self.now.work.part (asks_of asks.now).work) m plan.timers) }
         ensures masks { IfOk result (λ plan. GivesGoodMasks (asks_of asks.now).work) }
@@ -274,7 +274,7 @@ impl Stores {
         requires idle { IsIdle self.now }
         requires numbers { HasNumbers (parts_of self.now) }
         requires asked { IsQueuesPlanOf self.now.queues.part
-            (asks_queues self.now.work.part self.now.queues.part (asks_of asks.now).work) m asked }
+            (asks_queues self.now.work.part (others_of (parts_of self.now)) (asks_of asks.now).work) m asked }
         ensures { queue_faults.IsPlanOf self.now.queues.part
             (queue_outcome.outcome self.now.queues.part (asked_queues (parts_of self.now) (asks_of asks.now)) m) result }
     {

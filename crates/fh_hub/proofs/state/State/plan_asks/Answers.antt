@@ -10,7 +10,7 @@ use Rattle.fh_hub.specs.Replies.{reply_of}
 use Rattle.fh_hub.specs.World.{World, Quieted, full_rule, judged}
 use Rattle.fh_hub.specs.State.{world_of}
 use Rattle.fh_hub.proofs.Recording.{made_is_recorded, made_is_refused, step_is_at, step_at_asks, fits}
-use Rattle.fh_hub.proofs.Steps.{masks_by_asks}
+use Rattle.fh_hub.proofs.Steps.{masks_by_asks, list_by_asks}
 use Rattle.fh_hub.proofs.state.State.plan_asks.Goals as goal
 
 pub returns-clause-ok : goal.returns-clause-ok
@@ -34,6 +34,7 @@ returns-clause-ok c =
         own_moment = c.requires.own_moment;
         outcome = record { command = command; asks = all; moment = m; asked = c.requires.asks; is = done };
         masks = masks_by_asks w.parts command m all c.requires.asks (search rules);
+        list = list_by_asks w.parts command m all c.requires.asks;
         texts = c.entry_size.ensures.short (omega (arith, fit.short, c.entry_size.ensures.size m));
         short = fit.short;
         room = fit.room;

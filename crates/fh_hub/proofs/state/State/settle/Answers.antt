@@ -7,7 +7,7 @@ use Rattle.fh_hub.specs.StoreEdits.{parts_of, made, made_done}
 use Rattle.fh_hub.specs.Replay.{Entry, bytes_of, payloads_of}
 use Rattle.fh_hub.specs.State.{HubState, IsPlanned}
 use Rattle.fh_hub.proofs.Outcomes.{all_make}
-use Rattle.fh_hub.proofs.Bounds.{receipts_within, versions_within, functions_within, begins, goes_within}
+use Rattle.fh_hub.proofs.Bounds.{receipts_within, versions_within, works_within, begins, goes_within}
 use Rattle.fh_hub.proofs.Replays.{faithful_push, legal_planned, payloads_push, gate_push}
 use Rattle.fh_hub.proofs.Spelling.{is_spelled, entry_is}
 use Rattle.fh_hub.proofs.state.State.settle.Goals as goal
@@ -37,7 +37,7 @@ invariant_of-self g c =
     let pushed : payloads_of new.history ≡ payloads_of before.history ++ payload ∷ [] = ap payloads_of grows ∙ payloads_push before.history g.e ∙ ap (λ (p : List ℕ). payloads_of before.history ++ p ∷ []) (sym c.requires.spelled.spelling) in
     let given = receipts_within before.gate (length payload) before.stores.queues.part.next_receipt parts.queues.next_receipt (begins before c.self.invariant) c.self.invariant.receipt moves.receipt in
     let versions = versions_within (parts_of before.stores) parts did before.gate (length payload) out c.self.invariant.version in
-    let functions = functions_within (parts_of before.stores) parts did before.gate (length payload) out c.self.invariant.function in
+    let works = works_within (parts_of before.stores) parts did before.gate (length payload) out c.self.invariant.function c.self.invariant.session in
     record {
       place = omega (arith, gate_is, c.self.invariant.place, ap (λ (ps : List (List ℕ)). length (opened ps)) pushed, gate_push (payloads_of before.history) payload);
       within = rw (gate_is, ← size_is) (goes_within before.gate (length (bytes_of g.e)) planned.room);
@@ -45,7 +45,8 @@ invariant_of-self g c =
       number = omega (arith, gate_is, moves.number, ap (λ (p : Parts). p.queues.next_number) parts_is, c.self.invariant.number);
       receipt = rw gate_is (omega (arith, given, ap (λ (p : Parts). p.queues.next_receipt) parts_is));
       version = omega (arith, gate_is, versions, ap (λ (p : Parts). p.blobs.next_version) parts_is);
-      function = omega (arith, gate_is, functions, ap (λ (p : Parts). p.work.next_function) parts_is);
+      function = omega (arith, gate_is, works.functions, ap (λ (p : Parts). p.work.next_function) parts_is);
+      session = omega (arith, gate_is, works.sessions, ap (λ (p : Parts). p.work.session) parts_is);
     }
 
 pub returns-clause-faithful : goal.returns-clause-faithful
