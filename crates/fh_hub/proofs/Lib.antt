@@ -17,3 +17,4 @@ pub mod Bounds
 pub mod Leasing
 pub mod Noting
 pub mod Timing
+pub mod Bringing

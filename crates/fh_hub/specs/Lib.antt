@@ -19,3 +19,4 @@ pub mod Guards
 pub mod Holders
 pub mod Noting
 pub mod Timing
+pub mod Bringing

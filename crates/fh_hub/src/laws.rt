@@ -13,6 +13,7 @@ ghost use Rattle.fh_hub.specs.Guards.{GuardsMessages, RisesOver, HasOwnMoment};
 ghost use Rattle.fh_hub.specs.Holders.{IsHeldByOne};
 ghost use Rattle.fh_hub.specs.Noting.{IsNotedOnce, NotesByMessage};
 ghost use Rattle.fh_hub.specs.Timing.{IsDueInTime, RunsInTurn};
+ghost use Rattle.fh_hub.specs.Bringing.{KeepsToBounds};
 
 /// A file stands for one legal history at most, or is broken first at one place by one rule; where it has
 /// more than 7 bytes, not both.
@@ -57,8 +58,8 @@ pub fn messages_are_located()
     ensures { (history : List Entry) (n t : ℕ) → (replay history).last ≤ t → IsLocated history n t }
 {}
 
-/// No old receipt changes a message. In each event a live one stays as it is, unless a take of its queue
-/// lists it, an update or a delete has its newest receipt, or its queue is cleared; and a message that
+/// No old receipt changes a message. In each event a live one stays as it is, unless a take or a
+/// fetch of its queue lists it, an update or a delete has its newest receipt, or its queue is cleared; and a message that
 /// changes has a newer receipt.
 pub fn receipts_guard_messages()
     ensures { (history : List Entry) → All GuardsMessages (trace history) }
@@ -100,4 +101,10 @@ pub fn runs_come_in_turn()
 /// A due time that a reply tells is one of the schedule in force.
 pub fn due_times_are_scheduled()
     ensures { (history : List Entry) → All IsDueInTime (trace history) }
+{}
+
+/// Behind each fetch its function has no more jobs in work than a batch beside its threshold, by the settings in
+/// force. No other event brings a function more jobs, but an arm or a tick of its timer.
+pub fn fetches_keep_to_their_bounds()
+    ensures { (history : List Entry) → All KeepsToBounds (trace history) }
 {}

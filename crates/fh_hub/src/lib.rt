@@ -31,10 +31,11 @@ pub use faults::{HubFault, HubRule};
 pub use history::History;
 pub use hub::Hub;
 pub use laws::{
-    due_times_are_scheduled, files_have_one_history, leases_have_one_holder,
-    legal_events_have_their_moments, messages_are_in_one_place, messages_are_located,
-    notes_have_their_messages, numbers_are_given_once, queues_are_whole, receipts_are_given_once,
-    receipts_guard_messages, receipts_only_rise, runs_come_in_turn, versions_are_noted_once,
+    due_times_are_scheduled, fetches_keep_to_their_bounds, files_have_one_history,
+    leases_have_one_holder, legal_events_have_their_moments, messages_are_in_one_place,
+    messages_are_located, notes_have_their_messages, numbers_are_given_once, queues_are_whole,
+    receipts_are_given_once, receipts_guard_messages, receipts_only_rise, runs_come_in_turn,
+    versions_are_noted_once,
 };
 pub use mounting::prepare;
 pub use plan::{Change, Plan, Staged};
