@@ -1,7 +1,7 @@
 -- The grammar of a line: what it stands for, or its fault.
 use Rattle.std.specs.Prelude.{ℕ, ◌+◌, ◌==◌, nat_lt, if◌then◌else◌, List, [], ◌∷◌, length, slice_index_or, codes, Some, None, Result, Ok, Err}
 use Rattle.std.specs.Str.{bytes_eq, is_utf8}
-use Rattle.fh_event.specs.declared.command.Command.TheVariants.{MakeQueue, Put, Take, Update, Delete, Clear, PutBlob, DeleteBlob, Note, Acquire, RenewLease, ReleaseLease, Configure, Arm, Tick, Peek, GetBlob, Locate, Unnoted}
+use Rattle.fh_event.specs.declared.command.Command.TheVariants.{MakeQueue, Put, Take, Update, Delete, Clear, PutBlob, DeleteBlob, Note, Acquire, RenewLease, ReleaseLease, Configure, Session, Arm, Tick, Fetch, Peek, GetBlob, Locate, Unnoted}
 use Rattle.fh_event.specs.declared.settings.FunctionSettings.TheVariants.{Queue, Blob, Timer}
 use Rattle.fh_script.specs.declared.faults.WordFault.{WordFault}
 use Rattle.fh_script.specs.declared.faults.WordFault.TheVariants.{BadText, BadWord, BadCount}
@@ -113,6 +113,12 @@ arm_line = read (text ∷ []) (λ function. Ask (Arm function))
 unfoldable pub tick_line : List (List ℕ) → Result LineAsk WordFault
 tick_line = read (text ∷ []) (λ function. Ask (Tick function))
 
+unfoldable pub session_line : List (List ℕ) → Result LineAsk WordFault
+session_line = read [] (Ask Session)
+
+unfoldable pub fetch_line : List (List ℕ) → Result LineAsk WordFault
+fetch_line = read (text ∷ []) (λ function. Ask (Fetch function))
+
 -- the word behind the function says of which form its settings are
 unfoldable pub function_line : List ℕ → List (List ℕ) → Result LineAsk WordFault
 function_line form words =
@@ -148,6 +154,8 @@ line_of_words (verb ∷ words) =
     else if bytes_eq verb (codes "configure") then configure_line words
     else if bytes_eq verb (codes "arm") then arm_line words
     else if bytes_eq verb (codes "tick") then tick_line words
+    else if bytes_eq verb (codes "session") then session_line words
+    else if bytes_eq verb (codes "fetch") then fetch_line words
     else Err BadWord
 
 -- what the bytes of a line stand for, with or without the line feed

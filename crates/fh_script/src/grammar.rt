@@ -1,7 +1,7 @@
 // Reading a line.
 ghost use Rattle.std.specs.Prelude.{◌≡◌, ◌≢◌, ◌<◌, [], length, slice_index_or, MatchResult};
 ghost use Rattle.fh_base.specs.Answers.{Gives};
-ghost use Rattle.fh_script.specs.Grammar.{line_of, line_of_words, at_line, queue_line, put_line, take_line, peek_line, update_line, delete_line, clear_line, where_line, blob_line, unblob_line, get_line, note_line, unnoted_line, acquire_line, renew_line, release_line, configure_line, function_line, queue_function_line, blob_function_line, timer_function_line, arm_line, tick_line};
+ghost use Rattle.fh_script.specs.Grammar.{line_of, line_of_words, at_line, queue_line, put_line, take_line, peek_line, update_line, delete_line, clear_line, where_line, blob_line, unblob_line, get_line, note_line, unnoted_line, acquire_line, renew_line, release_line, configure_line, function_line, queue_function_line, blob_function_line, timer_function_line, arm_line, tick_line, session_line, fetch_line};
 ghost use Rattle.fh_script.specs.Words.{texts};
 
 use crate::faults::WordFault;
@@ -71,6 +71,8 @@ fn read_words(alloc: Global, words: &[&str]) -> Result<LineAsk, WordFault>
         "configure" => read_configure(alloc, words),
         "arm" => read_arm(alloc, words),
         "tick" => read_tick(alloc, words),
+        "session" => read_session(words),
+        "fetch" => read_fetch(alloc, words),
         _ => Err(WordFault::BadWord),
     }
 }
@@ -364,6 +366,24 @@ fn read_tick(alloc: Global, words: &[&str]) -> Result<LineAsk, WordFault>
 {
     counted(words, 1)?;
     Ok(LineAsk::Ask(Command::Tick {
+        function: text(alloc, word(words, 0))?,
+    }))
+}
+
+#[tactic(auto, unfolding(crate::specs::Grammar::session_line))]
+fn read_session(words: &[&str]) -> Result<LineAsk, WordFault>
+    ensures { Gives WordFault.NoMemory result (session_line (texts words.now)) }
+{
+    counted(words, 0)?;
+    Ok(LineAsk::Ask(Command::Session))
+}
+
+#[tactic(auto, unfolding(crate::specs::Grammar::fetch_line))]
+fn read_fetch(alloc: Global, words: &[&str]) -> Result<LineAsk, WordFault>
+    ensures { Gives WordFault.NoMemory result (fetch_line (texts words.now)) }
+{
+    counted(words, 1)?;
+    Ok(LineAsk::Ask(Command::Fetch {
         function: text(alloc, word(words, 0))?,
     }))
 }

@@ -96,6 +96,11 @@ fn command_shown(alloc: Global, command: &Command) -> Result<String, Fail> {
         }
         Command::Arm { function } => format!(in alloc; "Arm [{}]", function.as_str())?,
         Command::Tick { function } => format!(in alloc; "Tick [{}]", function.as_str())?,
+        Command::Session => String::from_str(alloc, "Session")?,
+        Command::Fetch { function } => format!(in alloc; "Fetch [{}]", function.as_str())?,
+        Command::Begin { .. } | Command::Finish { .. } | Command::Renewals => {
+            return Err("no line stands for it".into());
+        }
         Command::Configure { function, settings } => {
             let settings = settings_shown(alloc, &settings)?;
             format!(in alloc; "Configure [{}] {}", function.as_str(), settings.as_str())?
@@ -152,7 +157,7 @@ fn expect(rt: &HostRuntime, cases: &[(&[u8], &str)]) -> Result<(), Fail> {
 
 #[test]
 fn each_verb_has_its_command(rt: HostRuntime) -> Result<(), Fail> {
-    let cases: [(&[u8], &str); 24] = [
+    let cases: [(&[u8], &str); 26] = [
         (b"at 0", "at 0"),
         (b"at 253402300799999", "at 253402300799999"),
         (b"queue orders", "MakeQueue [orders]"),
@@ -189,6 +194,8 @@ fn each_verb_has_its_command(rt: HostRuntime) -> Result<(), Fail> {
         ),
         (b"arm f", "Arm [f]"),
         (b"tick f", "Tick [f]"),
+        (b"session", "Session"),
+        (b"fetch f", "Fetch [f]"),
     ];
     expect(&rt, &cases)
 }
@@ -249,7 +256,7 @@ fn a_text_is_decoded(rt: HostRuntime) -> Result<(), Fail> {
 
 #[test]
 fn the_first_fault_decides(rt: HostRuntime) -> Result<(), Fail> {
-    let cases: [(&[u8], &str); 31] = [
+    let cases: [(&[u8], &str); 33] = [
         (b"frob", "BadWord"),
         (b"Queue orders", "BadWord"),
         (b"%71ueue orders", "BadWord"),
@@ -287,6 +294,8 @@ fn the_first_fault_decides(rt: HostRuntime) -> Result<(), Fail> {
         ),
         (b"configure f timer %ff 2 x y", "BadText"),
         (b"arm", "BadCount"),
+        (b"session 1", "BadCount"),
+        (b"fetch", "BadCount"),
         (b"configure f queue orders 16 8 3 0", "BadCount"),
         (b"configure f blob 16 8 3 0 0 0", "BadCount"),
         (b"configure %ff queue orders x 8 3 0 0", "BadText"),

@@ -31,6 +31,8 @@ mod function_tests;
 #[cfg(test)]
 mod grammar_tests;
 #[cfg(test)]
+mod job_tests;
+#[cfg(test)]
 mod store_tests;
 #[cfg(test)]
 mod tests;
