@@ -24,20 +24,10 @@ fn a_function_fetches_batches_until_its_threshold_is_passed(rt: HostRuntime) -> 
     let first = puts(rt.alloc(), 40)?;
     let begun = run(&rt, first.as_bytes(), b"", NEVER)?;
     let mut lines = String::from_str(rt.alloc(), "configure work queue orders 16 20 5 0 0\n")?;
-    let fetches = [
-        ("ok 16 1:41:1 2:42:1", true),
-        ("ok 16 17:57:1", true),
-        ("quiet busy 32", false),
-    ];
-    for (expected, front) in fetches {
+    for expected in ["ok 16 1:41:1 2:42:1 ", "ok 16 17:57:1 ", "quiet busy 32"] {
         lines.push_str("fetch work\n")?;
         let last = last_line(&rt, lines.as_str(), &begun.journal)?;
-        let is_so = if front {
-            last.as_str().starts_with(expected)
-        } else {
-            last.as_str() == expected
-        };
-        assert!(&rt; is_so);
+        assert!(&rt; last.as_str().starts_with(expected));
     }
     Ok(())
 }
