@@ -154,7 +154,13 @@ fn reply_of(done: QueueDone) -> Option<Reply> {
         QueueDone::Updated { receipt } => Some(Reply::Updated { receipt }),
         QueueDone::Deleted => Some(Reply::Deleted),
         QueueDone::Cleared { count } => Some(Reply::Cleared { count }),
-        QueueDone::Swept => None,
+        QueueDone::Released { visible_at, .. } => Some(Reply::Acquired { until: visible_at }),
+        QueueDone::Completed { number, .. } => Some(Reply::Noted { number }),
+        QueueDone::Poisoned { copy, receipt } => Some(Reply::Stored {
+            number: copy,
+            receipt,
+        }),
+        QueueDone::Renewed { .. } | QueueDone::Swept => None,
     }
 }
 
