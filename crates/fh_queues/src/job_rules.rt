@@ -1,5 +1,5 @@
 // The rules that refuse what is asked of the message of an invocation, and of its outputs.
-ghost use Rattle.std.specs.Prelude.{◌≡◌, ◌∷◌, [], map};
+ghost use Rattle.std.specs.Prelude.{◌≡◌, ◌≤◌, ◌∷◌, [], map};
 ghost use Rattle.fh_queues.specs.Jobs.{count_sent};
 ghost use Rattle.fh_queues.specs.Rules.{first_broken, held_rule, release_rule, renew_rule, name_rule, output_rule, outputs_rule, job_rule, live_beside, room_rule, complete_rule};
 
@@ -152,7 +152,8 @@ pub(crate) fn count_sent(outputs: &[Output]) -> u64
 }
 
 fn sent_by(output: &Output) -> u64
-    ensures { result ≡ count_sent (output.now ∷ []) }
+    ensures count { result ≡ count_sent (output.now ∷ []) }
+    ensures few { result ≤ 1 }
 {
     match output {
         Output::Queue { .. } => 1,
