@@ -6,7 +6,7 @@ use Rattle.fh_queues.specs.Rows.{is_of, is_live, row_of, live_row, row_in}
 use Rattle.fh_queues.specs.Edits.{QueueState}
 use Rattle.fh_queues.specs.Index.{kept}
 use Rattle.fh_queues.proofs.Finding.{keep_if}
-use Rattle.fh_queues.proofs.Looking.{live_row-is, row_in-is, live_within}
+use Rattle.fh_queues.proofs.Finding.{live_row-is}
 use Rattle.fh_queues.proofs.queues.Queues.row.Goals as goal
 
 pub returns-in_default : goal.returns-in_default
