@@ -85,21 +85,20 @@ plain_at words_type field bytes = text_at field bytes
 plain_at masks_type field bytes = masks_at schedule_ranges field bytes
 plain_at flag_type field bytes = flag_at field bytes
 
-abbrev pub settings_of_form : ℕ → Option Form → List ℕ → Result (FunctionSettings × List ℕ) EventFault
-settings_of_form field None bytes = Err (BadField field)
-settings_of_form field (Some form) bytes = taken_at plain_at 0 (types_of_form form) (made_settings form) field bytes
+-- the fields of a form, which all have the number of this field
+abbrev pub formed : {K X : Type 0} (types : K → List PlainType) → ((form : K) → Taking HeldPlain X (types form))
+    → ℕ → Option K → List ℕ → Result (X × List ℕ) EventFault
+formed types made field None bytes = Err (BadField field)
+formed types made field (Some form) bytes = taken_at plain_at 0 (types form) (made form) field bytes
 
--- the byte of a form, and the fields of that form, which all have the number of this field
+-- the byte of a form, and the fields of that form
 unfoldable pub settings_at : ℕ → List ℕ → Result (FunctionSettings × List ℕ) EventFault
-settings_at field bytes = byte_at field bytes >>= λ form. settings_of_form field (form_at form.0) form.1
-
-abbrev pub output_of_form : ℕ → Option OutputForm → List ℕ → Result (Output × List ℕ) EventFault
-output_of_form field None bytes = Err (BadField field)
-output_of_form field (Some form) bytes = taken_at plain_at 0 (types_of_output_form form) (made_output form) field bytes
+settings_at field bytes = byte_at field bytes >>= λ form. formed types_of_form made_settings field (form_at form.0) form.1
 
 -- the byte of a form, and the fields of that form
 unfoldable pub output_at : ℕ → List ℕ → Result (Output × List ℕ) EventFault
-output_at field bytes = byte_at field bytes >>= λ form. output_of_form field (output_form_at form.0) form.1
+output_at field bytes =
+    byte_at field bytes >>= λ form. formed types_of_output_form made_output field (output_form_at form.0) form.1
 
 -- so many outputs
 abbrev pub outputs_in_turn : ℕ → ℕ → List ℕ → Result (List Output × List ℕ) EventFault

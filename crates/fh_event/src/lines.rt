@@ -2,7 +2,7 @@
 ghost use Rattle.std.specs.Prelude.{◌≡◌, ◌++◌, length, IfOk, OnOk};
 ghost use Rattle.std.specs.List.{flat_map};
 ghost use Rattle.std.specs.String.{string_bytes};
-ghost use Rattle.fh_event.specs.Lines.{escaped, spaced_time, rule_values, rule_line, taken_item, peeked_item, fetched_item, renewed_item, broken_rule, job_numbers, listed_name, place_line, reply_line, answer_line};
+ghost use Rattle.fh_event.specs.Lines.{escaped, spaced, spaced_time, rule_values, rule_line, taken_item, peeked_item, fetched_item, renewed_item, broken_rule, job_numbers, listed_name, place_line, reply_line, answer_line};
 
 use crate::begun::BegunJob;
 use crate::reply::{FetchedJob, Item, Place, RenewalPart, Reply};
@@ -119,11 +119,11 @@ fn push_reply(line: &mut String, reply: &Reply) -> Result<(), NoMemory>
         Reply::Busy { in_work } => write!(line, "quiet busy {in_work}")?,
         Reply::NoJob => line.push_str("quiet idle")?,
         Reply::JobDropped { number } => write!(line, "ok dropped {number}")?,
-        Reply::JobPoisoned { copy, broken } => {
-            write!(line, "ok poisoned {copy}")?;
-            push_broken(line, *broken)?;
+        Reply::JobPoisoned { copy, broken } => push_ended(line, "ok poisoned", *copy, *broken)?,
+        Reply::Blocked { holder, until } => {
+            line.push_str("quiet blocked")?;
+            write!(line, " {holder} {until}")?;
         }
-        Reply::Blocked { holder, until } => write!(line, "quiet blocked {holder} {until}")?,
         Reply::Begun { begun } => {
             let invocation = begun.invocation;
             write!(line, "ok begun {invocation}")?;
@@ -136,8 +136,7 @@ fn push_reply(line: &mut String, reply: &Reply) -> Result<(), NoMemory>
             push_broken(line, *broken)?;
         }
         Reply::JobReleased { visible_at, broken } => {
-            write!(line, "ok released {visible_at}")?;
-            push_broken(line, *broken)?;
+            push_ended(line, "ok released", *visible_at, *broken)?;
         }
         Reply::HoldsRenewed { parts } => {
             let parts = parts.as_slice();
@@ -170,6 +169,21 @@ fn push_time(line: &mut String, time: Option<u64>) -> Result<(), NoMemory>
         Some(time) => write!(line, " {time}")?,
     }
     Ok(())
+}
+
+#[tactic(auto, using(crate::proofs::Joining::joining))]
+fn push_ended(
+    line: &mut String,
+    ended: &str,
+    number: u64,
+    broken: Option<u64>,
+) -> Result<(), NoMemory>
+    ensures { OnOk result
+        (string_bytes line.new ≡ string_bytes line.old ++ (ended.now ++ spaced number ++ broken_rule broken)) }
+{
+    line.push_str(ended)?;
+    write!(line, " {number}")?;
+    push_broken(line, broken)
 }
 
 #[tactic(auto, using(crate::proofs::Joining::joining))]

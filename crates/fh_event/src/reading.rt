@@ -233,7 +233,7 @@ fn outputs_in_turn(
 {
     let mut outputs = Vec::new(alloc);
     let mut rest = bytes;
-    for _turn in 0..count {
+    for turn in 0..count {
         let (output, behind) = output_of(alloc, rest)?;
         outputs.push(output)?;
         rest = behind;

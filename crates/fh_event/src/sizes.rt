@@ -89,6 +89,7 @@ fn outcome_size(outcome: &Outcome) -> u64
     FORM.saturating_add(behind)
 }
 
+#[tactic(auto, using(crate::proofs::EntrySizes::adding, crate::proofs::ListLaws::joined_step))]
 fn outputs_size(outputs: &[Output]) -> u64
     ensures { result ≡ min (length (flat_map spelled (flat_map fields_of_output outputs.now))) (2 ^ 64 - 1) }
 {

@@ -225,7 +225,7 @@ fn put_count(into: &mut Vec<u8>, count: usize) -> Result<(), NoMemory>
     Ok(())
 }
 
-#[tactic(auto, using(crate::proofs::Extending::extending))]
+#[tactic(auto, using(crate::proofs::Extending::extending, crate::proofs::ListLaws::joined_step, crate::proofs::ListLaws::all_step, crate::proofs::ListLaws::all_at))]
 fn put_outputs_in_turn(into: &mut Vec<u8>, outputs: &[Output]) -> Result<(), NoMemory>
     requires texts { AllByRecursion IsShort (flat_map fields_of_output outputs.now) }
     ensures ok { OnOk result
