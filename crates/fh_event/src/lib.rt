@@ -40,4 +40,6 @@ pub use tables::{
 pub use writing::encode;
 
 #[cfg(test)]
+mod job_tests;
+#[cfg(test)]
 mod tests;

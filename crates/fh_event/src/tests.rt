@@ -37,7 +37,12 @@ fn put_hi(rt: &HostRuntime) -> Result<Command, Fail>
 }
 
 // The command is written at the moment as these bytes.
-fn expect_bytes(rt: &HostRuntime, command: &Command, ms: u64, bytes: &[u8]) -> Result<(), Fail>
+pub(crate) fn expect_bytes(
+    rt: &HostRuntime,
+    command: &Command,
+    ms: u64,
+    bytes: &[u8],
+) -> Result<(), Fail>
     requires masks { GivesGoodMasks command.now }
     requires list { GivesShortList command.now }
 {
