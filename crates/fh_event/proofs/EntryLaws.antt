@@ -7,98 +7,22 @@ use Rattle.std.proofs.lemmas.Bool.{eqb-true, ltb-false, le-ltb}
 use Rattle.std.proofs.lemmas.List.{append-nil, nil_from_length}
 use Rattle.fh_base.specs.Moments.{greatest_moment}
 use Rattle.fh_event.specs.declared.command.Command.{Command}
-use Rattle.fh_event.specs.declared.command.Command.TheVariants.{MakeQueue, Put, Take, Update, Delete, Clear, PutBlob, DeleteBlob, Note, Acquire, RenewLease, ReleaseLease, Configure, Arm, Tick, Peek, GetBlob, Locate, Unnoted}
+use Rattle.fh_event.specs.declared.command.Command.TheVariants.{MakeQueue, Put, Take, Update, Delete, Clear, PutBlob, DeleteBlob, Note, Acquire, RenewLease, ReleaseLease, Configure, Session, Arm, Tick, Fetch, Begin, Finish, Renewals, Peek, GetBlob, Locate, Unnoted}
 use Rattle.fh_event.specs.declared.faults.EventFault.TheVariants.{BadField, Trailing}
-use Rattle.fh_event.specs.declared.settings.FunctionSettings.{FunctionSettings}
-use Rattle.fh_event.specs.declared.settings.FunctionSettings.TheVariants.{Queue, Blob, Timer}
 use Rattle.fh_event.specs.declared.tables.FieldType.{FieldType}
-use Rattle.fh_event.specs.declared.tables.FieldType.TheVariants.{Number, Words, MaybeNumber, MaybeWords, Settings}
+use Rattle.fh_event.specs.declared.tables.FieldType.TheVariants.{Number, Words, MaybeNumber, MaybeWords, Settings, Outcome as OutcomeType}
 use Rattle.fh_event.specs.Answers.{◌>>=◌}
-use Rattle.fh_event.specs.Fields.{Field, number, words, maybe_number, maybe_words, masks, flag, number_bytes, text_bytes, spelled, IsText, IsField}
-use Rattle.fh_event.specs.Settings.{Form, queue_form, blob_form, timer_form, form_number, form_of, fields_behind_form, fields_of_settings, all_forms, form_at, PlainType, number_type, words_type, masks_type, flag_type, HeldPlain, types_of_form, made_settings}
-use Rattle.fh_event.specs.Kinds.{Kind, make_queue, put, take, update, delete, clear, put_blob, delete_blob, note, acquire, renew_lease, release_lease, configure, arm, tick, peek, get_blob, locate, unnoted, kind_number, kind_of, fields_of, all_kinds, kind_at, types_of, Held, made}
+use Rattle.fh_event.specs.Fields.{Field, number, words, maybe_number, maybe_words, number_bytes, text_bytes, spelled, IsText, IsField}
+use Rattle.fh_event.specs.Settings.{fields_of_settings}
+use Rattle.fh_event.specs.Outcomes.{fields_of_outcome}
+use Rattle.fh_event.specs.Kinds.{Kind, make_queue, put, take, update, delete, clear, put_blob, delete_blob, note, acquire, renew_lease, release_lease, configure, session, arm, tick, fetch, begin, finish, renewals, peek, get_blob, locate, unnoted, kind_number, kind_of, fields_of, all_kinds, kind_at, types_of, Held, made}
 use Rattle.fh_event.specs.Entries.{entry, IsEntry}
-use Rattle.fh_event.specs.Reading.{byte_at, number_at, text_at, plain_at, settings_of_form, settings_at, held_at, taken_at, command_of_kind, command_at, moment_at, entry_read}
-use Rattle.fh_event.proofs.Steps.{bind_ok, passed, ended, ok_is, IsBytes, IsBytes-rest, Takes, Takes-then, Takes-one}
-use Rattle.fh_event.proofs.FieldLaws.{wide64, number_takes, number_again, byte_takes, byte_again, numbers, texts, maybe, mask_lists, flags}
+use Rattle.fh_event.specs.Reading.{byte_at, number_at, text_at, held_at, taken_at, command_of_kind, command_at, moment_at, entry_read}
+use Rattle.fh_event.proofs.Steps.{bind_ok, passed, ended, ok_is, IsBytes, Takes, Takes-then}
+use Rattle.fh_event.proofs.FieldLaws.{wide64, number_takes, number_again, byte_takes, byte_again, numbers, texts, maybe}
+use Rattle.fh_event.proofs.SettingsLaws.{settings}
+use Rattle.fh_event.proofs.OutcomeLaws.{outcomes}
 use Rattle.fh_event.proofs.TableLaws.{ReadsFields, one_field, Values, applied, fields_with, IsTable, variant_takes, variant_again, find_passes}
-
--- ---- settings of functions
-
-abbrev plain_field : (type : PlainType) → HeldPlain type → List Field
-plain_field number_type n = number n ∷ []
-plain_field words_type text = words text ∷ []
-plain_field masks_type times = masks times ∷ []
-plain_field flag_type b = flag b ∷ []
-
-plain_reads : (type : PlainType) (i : ℕ) → ReadsFields (plain_at type i) (plain_field type)
-plain_reads number_type i = one_field number (numbers i)
-plain_reads words_type i = one_field words (texts i)
-plain_reads masks_type i = one_field masks (mask_lists i)
-plain_reads flag_type i = one_field flag (flags i)
-
-settings_agree : (f : Form) (values : Values HeldPlain (types_of_form f))
-    → (form_of (applied HeldPlain (types_of_form f) (made_settings f) values) ≡ f)
-    × (fields_behind_form (applied HeldPlain (types_of_form f) (made_settings f) values) ≡ fields_with plain_field (types_of_form f) values)
-settings_agree queue_form values = (refl, refl)
-settings_agree blob_form values = (refl, refl)
-settings_agree timer_form values = (refl, refl)
-
-abbrev values_of_settings : (s : FunctionSettings) → Values HeldPlain (types_of_form (form_of s))
-values_of_settings (Queue queue batch threshold limit retry singleton) =
-    (queue, (batch, (threshold, (limit, (retry, (singleton, tt))))))
-values_of_settings (Blob batch threshold limit retry singleton) = (batch, (threshold, (limit, (retry, (singleton, tt)))))
-values_of_settings (Timer times startup monitor singleton) = (times, (startup, (monitor, (singleton, tt))))
-
-settings_rebuilt : (s : FunctionSettings)
-    → (applied HeldPlain (types_of_form (form_of s)) (made_settings (form_of s)) (values_of_settings s) ≡ s)
-    × (fields_with plain_field (types_of_form (form_of s)) (values_of_settings s) ≡ fields_behind_form s)
-settings_rebuilt (Queue queue batch threshold limit retry singleton) = (refl, refl)
-settings_rebuilt (Blob batch threshold limit retry singleton) = (refl, refl)
-settings_rebuilt (Timer times startup monitor singleton) = (refl, refl)
-
-form_found : (f : Form) → form_at (form_number f) ≡ Some f
-unfolding form_at
-form_found queue_form = refl
-form_found blob_form = refl
-form_found timer_form = refl
-
-form_numbered : (n : ℕ) (f : Form) → form_at n ≡ Some f → form_number f ≡ n
-unfolding form_at
-form_numbered n f e = eqb-true _ _ (find_passes (λ (g : Form). eqb (form_number g) n) all_forms f e)
-
-form_is_byte : (f : Form) → form_number f < 2 ^ 8
-form_is_byte queue_form = omega arith
-form_is_byte blob_form = omega arith
-form_is_byte timer_form = omega arith
-
-settings_table : IsTable plain_field form_of fields_behind_form types_of_form made_settings
-settings_table = record { agrees = settings_agree; values_of = values_of_settings; rebuilt = settings_rebuilt }
-
-form_takes : (i n : ℕ) (o : Option Form) (bytes : List ℕ) (x : FunctionSettings × List ℕ) → IsBytes bytes → form_at n ≡ o
-    → settings_of_form i o bytes ≡ Ok x
-    → Takes (n ∷ bytes) (flat_map spelled (fields_of_settings x.0)) x.1 × AllByRecursion IsField (fields_of_settings x.0)
-form_takes i n None bytes x fits is e = absurd cc
-form_takes i n (Some f) bytes x fits is e =
-    let t = variant_takes plain_reads settings_table f 0 i bytes x fits e in
-    let number-is : n ≡ form_number (form_of x.0) = sym (form_numbered n f is) ∙ ap form_number (sym t.kind) in (
-      subst (λ (k : ℕ). Takes (k ∷ bytes) (flat_map spelled (fields_of_settings x.0)) x.1) (sym number-is)
-          (Takes-one (form_number (form_of x.0)) bytes (flat_map spelled (fields_behind_form x.0)) x.1 t.taken),
-      (form_is_byte (form_of x.0), t.are_fields),
-    )
-
-settings_takes : (i : ℕ) (bytes : List ℕ) (x : FunctionSettings × List ℕ) → IsBytes bytes → settings_at i bytes ≡ Ok x
-    → Takes bytes (flat_map spelled (fields_of_settings x.0)) x.1 × AllByRecursion IsField (fields_of_settings x.0)
-unfolding settings_at byte_at
-settings_takes i [] x fits e = absurd cc
-settings_takes i (n ∷ bytes) x fits e = form_takes i n (form_at n) bytes x (IsBytes-rest n bytes fits) refl e
-
-settings_again : (i : ℕ) (s : FunctionSettings) (rest : List ℕ) → AllByRecursion IsField (fields_of_settings s)
-    → settings_at i (flat_map spelled (fields_of_settings s) ++ rest) ≡ Ok (s, rest)
-unfolding settings_at byte_at
-settings_again i s rest h =
-    ap (λ (o : Option Form). settings_of_form i o (flat_map spelled (fields_behind_form s) ++ rest)) (form_found (form_of s))
-    ∙ variant_again plain_reads settings_table s 0 i rest h.1
 
 -- ---- a field of a type
 
@@ -108,16 +32,15 @@ field_of Words text = words text ∷ []
 field_of MaybeNumber n = maybe_number n ∷ []
 field_of MaybeWords text = maybe_words text ∷ []
 field_of Settings s = fields_of_settings s
+field_of OutcomeType o = fields_of_outcome o
 
 reads : (type : FieldType) (i : ℕ) → ReadsFields (held_at type i) (field_of type)
 reads Number i = one_field number (numbers i)
 reads Words i = one_field words (texts i)
 reads MaybeNumber i = one_field maybe_number (maybe (number_at w64 i) number_bytes (λ n. n < 2 ^ 64) (numbers i) i)
 reads MaybeWords i = one_field maybe_words (maybe (text_at i) text_bytes IsText (texts i) i)
-reads Settings i = record {
-  takes = λ bytes x fits e. settings_takes i bytes x fits e;
-  again = λ s rest h. settings_again i s rest h;
-}
+reads Settings i = settings i
+reads OutcomeType i = outcomes i
 
 -- ---- the kinds
 
@@ -137,8 +60,13 @@ agrees acquire values = (refl, refl)
 agrees renew_lease values = (refl, refl)
 agrees release_lease values = (refl, refl)
 agrees configure values = (refl, ap (λ (fs : List Field). words values.0 ∷ fs) (sym (append-nil (fields_of_settings values.1.0))))
+agrees session values = (refl, refl)
 agrees arm values = (refl, refl)
 agrees tick values = (refl, refl)
+agrees fetch values = (refl, refl)
+agrees begin values = (refl, refl)
+agrees finish values = (refl, ap (λ (fs : List Field). number values.0 ∷ fs) (sym (append-nil (fields_of_outcome values.1.0))))
+agrees renewals values = (refl, refl)
 agrees peek values = (refl, refl)
 agrees get_blob values = (refl, refl)
 agrees locate values = (refl, refl)
@@ -158,8 +86,13 @@ values_of (Acquire lease holder seconds) = (lease, (holder, (seconds, tt)))
 values_of (RenewLease lease holder) = (lease, (holder, tt))
 values_of (ReleaseLease lease holder) = (lease, (holder, tt))
 values_of (Configure function settings) = (function, (settings, tt))
+values_of Session = tt
 values_of (Arm function) = (function, tt)
 values_of (Tick function) = (function, tt)
+values_of (Fetch function) = (function, tt)
+values_of (Begin function high low) = (function, (high, (low, tt)))
+values_of (Finish invocation outcome) = (invocation, (outcome, tt))
+values_of Renewals = tt
 values_of (Peek queue count) = (queue, (count, tt))
 values_of (GetBlob container blob) = (container, (blob, tt))
 values_of (Locate n) = (n, tt)
@@ -181,8 +114,13 @@ rebuilt (Acquire lease holder seconds) = (refl, refl)
 rebuilt (RenewLease lease holder) = (refl, refl)
 rebuilt (ReleaseLease lease holder) = (refl, refl)
 rebuilt (Configure function settings) = (refl, ap (λ (fs : List Field). words function ∷ fs) (append-nil (fields_of_settings settings)))
+rebuilt Session = (refl, refl)
 rebuilt (Arm function) = (refl, refl)
 rebuilt (Tick function) = (refl, refl)
+rebuilt (Fetch function) = (refl, refl)
+rebuilt (Begin function high low) = (refl, refl)
+rebuilt (Finish invocation outcome) = (refl, ap (λ (fs : List Field). number invocation ∷ fs) (append-nil (fields_of_outcome outcome)))
+rebuilt Renewals = (refl, refl)
 rebuilt (Peek queue count) = (refl, refl)
 rebuilt (GetBlob container blob) = (refl, refl)
 rebuilt (Locate n) = (refl, refl)
@@ -204,8 +142,13 @@ found acquire = refl
 found renew_lease = refl
 found release_lease = refl
 found configure = refl
+found session = refl
 found arm = refl
 found tick = refl
+found fetch = refl
+found begin = refl
+found finish = refl
+found renewals = refl
 found peek = refl
 found get_blob = refl
 found locate = refl

@@ -4,7 +4,7 @@ use Rattle.std.specs.Int.{w32, to_be_bytes}
 use Rattle.std.specs.List.{flat_map, AllByRecursion}
 use Rattle.fh_base.specs.Limits.{longest_payload}
 use Rattle.fh_event.specs.declared.command.Command.{Command}
-use Rattle.fh_event.specs.Fields.{Field, number, words, maybe_number, maybe_words, form, masks, flag, number_bytes, text_bytes, maybe_bytes, spelled, IsShort}
+use Rattle.fh_event.specs.Fields.{Field, number, words, maybe_number, maybe_words, form, masks, flag, item_count, number_bytes, text_bytes, maybe_bytes, spelled, IsShort}
 use Rattle.fh_event.specs.Kinds.{fields_of, kind_number, kind_of}
 use Rattle.fh_event.specs.Entries.{entry, HasShortTexts}
 
@@ -28,6 +28,7 @@ short_field (maybe_number n) few = tt
 short_field (form n) few = tt
 short_field (masks times) few = tt
 short_field (flag b) few = tt
+short_field (item_count n) few = tt
 short_field (maybe_words None) few = tt
 short_field (maybe_words (Some text)) few = omega (arith, few, length-append (to_be_bytes w32 (length text)) text)
 

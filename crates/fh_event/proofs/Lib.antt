@@ -1,7 +1,12 @@
 pub mod Extending
 pub mod Steps
+pub mod ListLaws
 pub mod FieldLaws
 pub mod TableLaws
+pub mod FormLaws
+pub mod SettingsLaws
+pub mod OutcomeLaws
+pub mod Turns
 pub mod EntryLaws
 pub mod Joining
 pub mod Escaping

@@ -2,34 +2,16 @@
 use Rattle.std.proofs.Common.{◌≡◌, ℕ, ◌+◌, Bool, true, false, cond, List, [], ◌∷◌, ◌++◌, Option, Some, Result, Ok, refl, sym, ap, subst, ◌∙◌, append_assoc}
 use Rattle.std.specs.Prelude.{find}
 use Rattle.std.specs.List.{flat_map, AllByRecursion}
+use Rattle.std.proofs.lemmas.Grind.{flat_map-append}
 use Rattle.std.proofs.lemmas.List.{append-nil}
 use Rattle.fh_event.specs.declared.faults.EventFault.{EventFault}
 use Rattle.fh_event.specs.Answers.{◌>>=◌}
 use Rattle.fh_event.specs.Fields.{Field, spelled, IsField}
 use Rattle.fh_event.specs.Tables.{Taking}
 use Rattle.fh_event.specs.Reading.{taken_at}
+use Rattle.fh_event.proofs.ListLaws.{all_joined, all_first, all_others}
 use Rattle.fh_event.proofs.Steps.{bind_ok, ok_is, IsBytes, Takes, Takes-then}
 use Rattle.fh_event.proofs.FieldLaws.{Reads}
-
--- ---- fields in a row
-
-spelled_all : (fields more : List Field) → flat_map spelled (fields ++ more) ≡ flat_map spelled fields ++ flat_map spelled more
-spelled_all [] more = refl
-spelled_all (f ∷ fields) more =
-    ap (λ (t : List ℕ). spelled f ++ t) (spelled_all fields more)
-    ∙ sym (append_assoc (spelled f) (flat_map spelled fields) (flat_map spelled more))
-
-are_all : (fields more : List Field) → AllByRecursion IsField fields → AllByRecursion IsField more → AllByRecursion IsField (fields ++ more)
-are_all [] more a b = b
-are_all (f ∷ fields) more a b = (a.0, are_all fields more a.1 b)
-
-are_first : (fields more : List Field) → AllByRecursion IsField (fields ++ more) → AllByRecursion IsField fields
-are_first [] more h = tt
-are_first (f ∷ fields) more h = (h.0, are_first fields more h.1)
-
-are_others : (fields more : List Field) → AllByRecursion IsField (fields ++ more) → AllByRecursion IsField more
-are_others [] more h = h
-are_others (f ∷ fields) more h = are_others fields more h.1
 
 -- ---- values that are some fields
 
@@ -90,9 +72,9 @@ fields_take {T} {X} {Holds} {held} {fields} reads step (type ∷ types) taking i
     record {
       values = (b.0.0, others.values);
       value_is = others.value_is;
-      taken = subst (λ (text : List ℕ). Takes bytes text x.1) (sym (spelled_all front behind))
+      taken = subst (λ (text : List ℕ). Takes bytes text x.1) (sym (flat_map-append spelled front behind))
           (Takes-then bytes (flat_map spelled front) b.0.1 (flat_map spelled behind) x.1 first.0 others.taken);
-      are_fields = are_all front behind first.1 others.are_fields;
+      are_fields = all_joined IsField front behind first.1 others.are_fields;
     }
 
 fields_again : {T X : Type 0} {Holds : T → Type 0} {held : (type : T) → ℕ → List ℕ → Result (Holds type × List ℕ) EventFault}
@@ -105,11 +87,11 @@ fields_again {T} {X} {Holds} {held} fields reads step (type ∷ types) taking i 
     let front = fields type values.0 in
     let behind = fields_with fields types values.1 in
     let regrouped : flat_map spelled (front ++ behind) ++ rest ≡ flat_map spelled front ++ (flat_map spelled behind ++ rest)
-    = ap (λ (t : List ℕ). t ++ rest) (spelled_all front behind) ∙ append_assoc (flat_map spelled front) (flat_map spelled behind) rest in
+    = ap (λ (t : List ℕ). t ++ rest) (flat_map-append spelled front behind) ∙ append_assoc (flat_map spelled front) (flat_map spelled behind) rest in
     ap (taken_at held step (type ∷ types) taking i) regrouped
     ∙ ap (λ (r : Result (Holds type × List ℕ) EventFault). r >>= λ x. taken_at held step types (taking x.0) (i + step) x.1)
-    ((reads type i).again values.0 (flat_map spelled behind ++ rest) (are_first front behind h))
-    ∙ fields_again fields reads step types (taking values.0) (i + step) values.1 rest (are_others front behind h)
+    ((reads type i).again values.0 (flat_map spelled behind ++ rest) (all_first IsField front behind h))
+    ∙ fields_again fields reads step types (taking values.0) (i + step) values.1 rest (all_others IsField front behind h)
 
 -- ---- values of several kinds
 

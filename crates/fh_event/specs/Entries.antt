@@ -3,9 +3,10 @@ use Rattle.std.specs.Prelude.{◌≡◌, ⊤, ℕ, ◌≤◌, List, ◌∷◌, �
 use Rattle.std.specs.List.{flat_map, AllByRecursion}
 use Rattle.fh_base.specs.Moments.{greatest_moment}
 use Rattle.fh_event.specs.declared.command.Command.{Command}
-use Rattle.fh_event.specs.declared.command.Command.TheVariants.{Configure}
+use Rattle.fh_event.specs.declared.command.Command.TheVariants.{Configure, Finish}
 use Rattle.fh_event.specs.Fields.{number_bytes, spelled, IsField, IsShort}
 use Rattle.fh_event.specs.Settings.{HasGoodMasks}
+use Rattle.fh_event.specs.Outcomes.{HasShortList}
 use Rattle.fh_event.specs.Kinds.{kind_number, kind_of, fields_of}
 
 -- the moment in eight bytes, the kind in one, and the fields
@@ -27,6 +28,11 @@ HasShortTexts command = AllByRecursion IsShort (fields_of command)
 abbrev pub GivesGoodMasks : Command → Type 0
 GivesGoodMasks (Configure function settings) = HasGoodMasks settings
 GivesGoodMasks command = ⊤
+
+-- the outcome that the command gives has a short list
+abbrev pub GivesShortList : Command → Type 0
+GivesShortList (Finish invocation outcome) = HasShortList outcome
+GivesShortList command = ⊤
 
 -- an entry of this moment and command stands at the end
 pub record AppendsEntry (old new : List ℕ) (moment : ℕ) (command : Command) : Type 0 where

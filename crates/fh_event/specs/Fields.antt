@@ -14,6 +14,11 @@ pub data Field : Type 0 where
   form : ℕ → Field
   masks : List ℕ → Field
   flag : Bool → Field
+  item_count : ℕ → Field
+
+-- the most items of a list
+abbrev pub longest_list : ℕ
+longest_list = 65536
 
 -- eight bytes, the greatest place first
 unfoldable pub number_bytes : ℕ → List ℕ
@@ -22,6 +27,10 @@ number_bytes n = to_be_bytes w64 n
 -- the length in four bytes, and then the text
 unfoldable pub text_bytes : List ℕ → List ℕ
 text_bytes text = to_be_bytes w32 (length text) ++ text
+
+-- how many items a list has, in four bytes
+unfoldable pub count_bytes : ℕ → List ℕ
+count_bytes n = to_be_bytes w32 n
 
 -- a byte 0, or a byte 1 and the value
 unfoldable pub maybe_bytes : {X : Type 0} → (X → List ℕ) → Option X → List ℕ
@@ -41,6 +50,7 @@ spelled (maybe_words text) = maybe_bytes text_bytes text
 spelled (form n) = n ∷ []
 spelled (masks numbers) = flat_map number_bytes numbers
 spelled (flag b) = flag_byte b ∷ []
+spelled (item_count n) = count_bytes n
 
 -- the text is UTF-8 and not too long
 pub record IsText (text : List ℕ) : Type 0 where
@@ -56,6 +66,7 @@ IsField (maybe_words text) = IfSome text IsText
 IsField (form n) = n < 2 ^ 8
 IsField (masks numbers) = are_masks schedule_ranges numbers ≡ true
 IsField (flag b) = ⊤
+IsField (item_count n) = n ≤ longest_list
 
 -- no text is too long for a field
 abbrev pub IsShort : Field → Type 0
@@ -66,3 +77,4 @@ IsShort (maybe_words text) = IfSome text (λ t. length t ≤ longest_payload)
 IsShort (form n) = ⊤
 IsShort (masks numbers) = ⊤
 IsShort (flag b) = ⊤
+IsShort (item_count n) = ⊤

@@ -1,12 +1,14 @@
 -- The kinds of commands: the number of each, and its fields.
 use Rattle.std.specs.Prelude.{ℕ, ◌==◌, List, [], ◌∷◌, Option, find}
 use Rattle.fh_event.specs.declared.command.Command.{Command}
-use Rattle.fh_event.specs.declared.command.Command.TheVariants.{MakeQueue, Put, Take, Update, Delete, Clear, PutBlob, DeleteBlob, Note, Acquire, RenewLease, ReleaseLease, Configure, Arm, Tick, Peek, GetBlob, Locate, Unnoted}
+use Rattle.fh_event.specs.declared.command.Command.TheVariants.{MakeQueue, Put, Take, Update, Delete, Clear, PutBlob, DeleteBlob, Note, Acquire, RenewLease, ReleaseLease, Configure, Session, Arm, Tick, Fetch, Begin, Finish, Renewals, Peek, GetBlob, Locate, Unnoted}
 use Rattle.fh_event.specs.declared.tables.FieldType.{FieldType}
-use Rattle.fh_event.specs.declared.tables.FieldType.TheVariants.{Number, Words, MaybeNumber, MaybeWords, Settings}
+use Rattle.fh_event.specs.declared.tables.FieldType.TheVariants.{Number, Words, MaybeNumber, MaybeWords, Settings, Outcome as OutcomeType}
 use Rattle.fh_event.specs.declared.settings.FunctionSettings.{FunctionSettings}
+use Rattle.fh_event.specs.declared.outcome.Outcome.{Outcome}
 use Rattle.fh_event.specs.Fields.{Field, number, words, maybe_number, maybe_words}
 use Rattle.fh_event.specs.Settings.{fields_of_settings}
+use Rattle.fh_event.specs.Outcomes.{fields_of_outcome}
 use Rattle.fh_event.specs.Tables.{Taking}
 
 pub data Kind : Type 0 where
@@ -23,8 +25,13 @@ pub data Kind : Type 0 where
   renew_lease : Kind
   release_lease : Kind
   configure : Kind
+  session : Kind
   arm : Kind
   tick : Kind
+  fetch : Kind
+  begin : Kind
+  finish : Kind
+  renewals : Kind
   peek : Kind
   get_blob : Kind
   locate : Kind
@@ -45,8 +52,13 @@ kind_number acquire = 10
 kind_number renew_lease = 11
 kind_number release_lease = 12
 kind_number configure = 13
+kind_number session = 14
 kind_number arm = 15
 kind_number tick = 16
+kind_number fetch = 17
+kind_number begin = 18
+kind_number finish = 19
+kind_number renewals = 20
 kind_number peek = 21
 kind_number get_blob = 22
 kind_number locate = 23
@@ -66,8 +78,13 @@ kind_of (Acquire lease holder seconds) = acquire
 kind_of (RenewLease lease holder) = renew_lease
 kind_of (ReleaseLease lease holder) = release_lease
 kind_of (Configure function settings) = configure
+kind_of Session = session
 kind_of (Arm function) = arm
 kind_of (Tick function) = tick
+kind_of (Fetch function) = fetch
+kind_of (Begin function high low) = begin
+kind_of (Finish invocation outcome) = finish
+kind_of Renewals = renewals
 kind_of (Peek queue count) = peek
 kind_of (GetBlob container blob) = get_blob
 kind_of (Locate n) = locate
@@ -78,7 +95,8 @@ abbrev pub fields_of : Command → List Field
 fields_of (MakeQueue queue) = words queue ∷ []
 fields_of (Put queue delay ttl text) = words queue ∷ number delay ∷ maybe_number ttl ∷ words text ∷ []
 fields_of (Take queue count hold) = words queue ∷ number count ∷ number hold ∷ []
-fields_of (Update queue n receipt hold text) = words queue ∷ number n ∷ number receipt ∷ number hold ∷ maybe_words text ∷ []
+fields_of (Update queue n receipt hold text) =
+    words queue ∷ number n ∷ number receipt ∷ number hold ∷ maybe_words text ∷ []
 fields_of (Delete queue n receipt) = words queue ∷ number n ∷ number receipt ∷ []
 fields_of (Clear queue) = words queue ∷ []
 fields_of (PutBlob container blob text) = words container ∷ words blob ∷ words text ∷ []
@@ -88,8 +106,13 @@ fields_of (Acquire lease holder seconds) = words lease ∷ number holder ∷ num
 fields_of (RenewLease lease holder) = words lease ∷ number holder ∷ []
 fields_of (ReleaseLease lease holder) = words lease ∷ number holder ∷ []
 fields_of (Configure function settings) = words function ∷ fields_of_settings settings
+fields_of Session = []
 fields_of (Arm function) = words function ∷ []
 fields_of (Tick function) = words function ∷ []
+fields_of (Fetch function) = words function ∷ []
+fields_of (Begin function high low) = words function ∷ number high ∷ number low ∷ []
+fields_of (Finish invocation outcome) = number invocation ∷ fields_of_outcome outcome
+fields_of Renewals = []
 fields_of (Peek queue count) = words queue ∷ number count ∷ []
 fields_of (GetBlob container blob) = words container ∷ words blob ∷ []
 fields_of (Locate n) = number n ∷ []
@@ -97,8 +120,8 @@ fields_of (Unnoted function container) = words function ∷ words container ∷ 
 
 abbrev pub all_kinds : List Kind
 all_kinds =
-    make_queue ∷ put ∷ take ∷ update ∷ delete ∷ clear ∷ put_blob ∷ delete_blob ∷ note ∷ acquire ∷ renew_lease ∷ release_lease
-    ∷ configure ∷ arm ∷ tick ∷ peek ∷ get_blob ∷ locate ∷ unnoted ∷ []
+    make_queue ∷ put ∷ take ∷ update ∷ delete ∷ clear ∷ put_blob ∷ delete_blob ∷ note ∷ acquire ∷ renew_lease
+    ∷ release_lease ∷ configure ∷ session ∷ arm ∷ tick ∷ fetch ∷ begin ∷ finish ∷ renewals ∷ peek ∷ get_blob ∷ locate ∷ unnoted ∷ []
 
 -- the kind of this number
 unfoldable pub kind_at : ℕ → Option Kind
@@ -119,8 +142,13 @@ types_of acquire = Words ∷ Number ∷ Number ∷ []
 types_of renew_lease = Words ∷ Number ∷ []
 types_of release_lease = Words ∷ Number ∷ []
 types_of configure = Words ∷ Settings ∷ []
+types_of session = []
 types_of arm = Words ∷ []
 types_of tick = Words ∷ []
+types_of fetch = Words ∷ []
+types_of begin = Words ∷ Number ∷ Number ∷ []
+types_of finish = Number ∷ OutcomeType ∷ []
+types_of renewals = []
 types_of peek = Words ∷ Number ∷ []
 types_of get_blob = Words ∷ Words ∷ []
 types_of locate = Number ∷ []
@@ -133,6 +161,7 @@ Held Words = List ℕ
 Held MaybeNumber = Option ℕ
 Held MaybeWords = Option (List ℕ)
 Held Settings = FunctionSettings
+Held OutcomeType = Outcome
 
 -- the command of the kind with its fields
 abbrev pub made : (kind : Kind) → Taking Held Command (types_of kind)
@@ -149,8 +178,13 @@ made acquire = λ lease holder seconds. Acquire lease holder seconds
 made renew_lease = λ lease holder. RenewLease lease holder
 made release_lease = λ lease holder. ReleaseLease lease holder
 made configure = λ function settings. Configure function settings
+made session = Session
 made arm = λ function. Arm function
 made tick = λ function. Tick function
+made fetch = λ function. Fetch function
+made begin = λ function high low. Begin function high low
+made finish = λ invocation outcome. Finish invocation outcome
+made renewals = Renewals
 made peek = λ queue count. Peek queue count
 made get_blob = λ container blob. GetBlob container blob
 made locate = λ n. Locate n

@@ -2,6 +2,7 @@ pub mod Masks
 pub mod Fields
 pub mod Tables
 pub mod Settings
+pub mod Outcomes
 pub mod Kinds
 pub mod Entries
 pub mod Judging

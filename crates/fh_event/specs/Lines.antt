@@ -7,11 +7,16 @@ use Rattle.percent_encoding.specs.Percent.{percent_encode_byte}
 use Rattle.fh_base.specs.declared.rule.Rule.{Rule}
 use Rattle.fh_base.specs.declared.rule.Rule.TheVariants.{MomentTooLate, BadName, TooLarge, OutOfRange, NoSuchFunction, QueueNotFound, BlobNotFound, MessageNotFound, NoSuchInvocation, PopReceiptMismatch, LeaseHeld, LeaseMismatch, StoreFull, JournalFull, OldJournal, TokensFull, BadZone}
 use Rattle.fh_base.specs.Rules.{rule_number, rule_name}
+use Rattle.fh_event.specs.declared.begun.BegunJob.{BegunJob}
+use Rattle.fh_event.specs.declared.begun.BegunJob.TheVariants.{Timer as TimerJob, Message as MessageJob}
+use Rattle.fh_event.specs.declared.reply.FetchedJob.{FetchedJob}
+use Rattle.fh_event.specs.declared.reply.RenewalPart.{RenewalPart}
+use Rattle.fh_event.specs.declared.reply.RenewalPart.TheVariants.{Message, Lease}
 use Rattle.fh_event.specs.declared.reply.Item.{Item}
 use Rattle.fh_event.specs.declared.reply.Place.{Place}
 use Rattle.fh_event.specs.declared.reply.Place.TheVariants.{Waiting, Held, Deleted as PlaceDeleted, Completed, Moved, Expired, Unknown}
 use Rattle.fh_event.specs.declared.reply.Reply.{Reply}
-use Rattle.fh_event.specs.declared.reply.Reply.TheVariants.{Made, There, Stored, Taken, Empty, Updated, Deleted, Cleared, BlobStored, BlobDeleted, Noted, NotedBefore, Acquired, Renewed, Released, Configured, Same, Armed, PastDue, Ticked, Running, Unarmed, NotDue, Peeked, Got, Located, Unnoted}
+use Rattle.fh_event.specs.declared.reply.Reply.TheVariants.{Made, There, Stored, Taken, Empty, Updated, Deleted, Cleared, BlobStored, BlobDeleted, Noted, NotedBefore, Acquired, Renewed, Released, Configured, Same, Armed, PastDue, Ticked, Running, Unarmed, NotDue, SessionBegun, Fetched, Busy, NoJob, JobDropped, JobPoisoned, Blocked, Begun, JobLost, JobDone, JobFailed, JobReleased, HoldsRenewed, NothingDue, Peeked, Got, Located, Unnoted}
 
 -- a control character, a space, a percent sign, or a byte outside ASCII
 abbrev pub is_escaped : ℕ → Bool
@@ -60,7 +65,8 @@ rule_line rule = codes "no" ++ spaced (rule_number rule) ++ codes " " ++ rule_na
 -- number, receipt, count and text of a message that is held now
 abbrev pub taken_item : Item → List ℕ
 taken_item item =
-    spaced item.number ++ codes ":" ++ decimal item.receipt ++ codes ":" ++ decimal item.count ++ codes ":" ++ escaped item.text
+    spaced item.number ++ codes ":" ++ decimal item.receipt ++ codes ":" ++ decimal item.count ++ codes ":"
+    ++ escaped item.text
 
 -- number, count and text of a message that is read
 abbrev pub peeked_item : Item → List ℕ
@@ -69,6 +75,26 @@ peeked_item item = spaced item.number ++ codes ":" ++ decimal item.count ++ code
 -- one of the names that a reading lists
 abbrev pub listed_name : List ℕ → List ℕ
 listed_name name = codes " " ++ escaped name
+
+-- number, receipt and count of a ready job
+abbrev pub fetched_item : FetchedJob → List ℕ
+fetched_item job = spaced job.number ++ codes ":" ++ decimal job.receipt ++ codes ":" ++ decimal job.count
+
+-- a hold that goes on: of a message with its receipt, or of a lease
+abbrev pub renewed_item : RenewalPart → List ℕ
+renewed_item (Message invocation receipt until) =
+    codes " m" ++ decimal invocation ++ codes ":" ++ decimal receipt ++ codes ":" ++ decimal until
+renewed_item (Lease invocation until) = codes " l" ++ decimal invocation ++ codes ":" ++ decimal until
+
+-- the number of the rule that outputs broke, where they broke one
+abbrev pub broken_rule : Option ℕ → List ℕ
+broken_rule None = []
+broken_rule (Some rule) = codes " rule" ++ spaced rule
+
+-- number and count of the message, or 0 twice
+abbrev pub job_numbers : BegunJob → List ℕ
+job_numbers (TimerJob past_due last next updated) = codes " 0 0"
+job_numbers (MessageJob n queue text count receipt put_at expiry visible_at about content) = spaced n ++ spaced count
 
 abbrev pub place_line : Place → List ℕ
 place_line (Waiting queue) = codes "is waiting " ++ escaped queue
@@ -103,6 +129,20 @@ reply_line (Ticked due next) = codes "ok ticked" ++ spaced due ++ spaced_time ne
 reply_line Running = codes "quiet running"
 reply_line Unarmed = codes "quiet unarmed"
 reply_line NotDue = codes "quiet notdue"
+reply_line (SessionBegun session) = codes "ok" ++ spaced session
+reply_line (Fetched jobs) = codes "ok" ++ spaced (length jobs) ++ flat_map fetched_item jobs
+reply_line (Busy in_work) = codes "quiet busy" ++ spaced in_work
+reply_line NoJob = codes "quiet idle"
+reply_line (JobDropped n) = codes "ok dropped" ++ spaced n
+reply_line (JobPoisoned copy broken) = codes "ok poisoned" ++ spaced copy ++ broken_rule broken
+reply_line (Blocked holder until) = codes "quiet blocked" ++ spaced holder ++ spaced until
+reply_line (Begun begun) = codes "ok begun" ++ spaced begun.invocation ++ job_numbers begun.job
+reply_line JobLost = codes "ok lost"
+reply_line JobDone = codes "ok done"
+reply_line (JobFailed broken) = codes "ok failed" ++ broken_rule broken
+reply_line (JobReleased visible_at broken) = codes "ok released" ++ spaced visible_at ++ broken_rule broken
+reply_line (HoldsRenewed parts) = codes "ok" ++ spaced (length parts) ++ flat_map renewed_item parts
+reply_line NothingDue = codes "quiet none"
 reply_line (Peeked items) = codes "is" ++ spaced (length items) ++ flat_map peeked_item items
 reply_line (Got version text) = codes "is" ++ spaced version ++ codes " " ++ escaped text
 reply_line (Located place) = place_line place

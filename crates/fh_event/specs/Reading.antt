@@ -8,13 +8,18 @@ use Rattle.fh_event.specs.declared.command.Command.{Command}
 use Rattle.fh_event.specs.declared.faults.EventFault.{EventFault}
 use Rattle.fh_event.specs.declared.faults.EventFault.TheVariants.{BadKind, ShortField, LongField, BadField, Trailing}
 use Rattle.fh_event.specs.declared.tables.FieldType.{FieldType}
-use Rattle.fh_event.specs.declared.tables.FieldType.TheVariants.{Number, Words, MaybeNumber, MaybeWords, Settings}
+use Rattle.fh_event.specs.declared.tables.FieldType.TheVariants.{Number, Words, MaybeNumber, MaybeWords, Settings, Outcome as OutcomeType}
 use Rattle.fh_event.specs.Answers.{◌>>=◌}
 use Rattle.fh_base.specs.Limits.{longest_payload}
 use Rattle.fh_event.specs.declared.settings.FunctionSettings.{FunctionSettings}
+use Rattle.fh_event.specs.declared.outcome.Outcome.{Outcome}
+use Rattle.fh_event.specs.declared.outcome.Outcome.TheVariants.{Failed, Done}
+use Rattle.fh_event.specs.declared.outcome.Output.{Output}
+use Rattle.fh_event.specs.Fields.{longest_list}
 use Rattle.fh_event.specs.Tables.{Taking}
 use Rattle.fh_event.specs.Masks.{is_mask, schedule_ranges}
-use Rattle.fh_event.specs.Settings.{Form, form_at, PlainType, number_type, words_type, masks_type, flag_type, HeldPlain, types_of_form, made_settings}
+use Rattle.fh_event.specs.Settings.{form_at, PlainType, number_type, words_type, masks_type, flag_type, HeldPlain, types_of_form, made_settings}
+use Rattle.fh_event.specs.Outcomes.{output_form_at, types_of_output_form, made_output}
 use Rattle.fh_event.specs.Kinds.{Kind, kind_at, types_of, Held, made}
 
 unfoldable pub byte_at : ℕ → List ℕ → Result (ℕ × List ℕ) EventFault
@@ -59,16 +64,19 @@ masks_at (range ∷ ranges) field bytes = do
   masks ← masks_at ranges field mask.1
   Ok (mask.0 ∷ masks.0, masks.1)
 
-abbrev pub behind_flag : {X : Type 0} → (List ℕ → Result (X × List ℕ) EventFault) → Bool → List ℕ → Result (Option X × List ℕ) EventFault
+abbrev pub behind_flag : {X : Type 0} → (List ℕ → Result (X × List ℕ) EventFault) → Bool → List ℕ
+    → Result (Option X × List ℕ) EventFault
 behind_flag reader false rest = Ok (None, rest)
 behind_flag reader true rest = reader rest >>= λ x. Ok (Some x.0, x.1)
 
 -- a byte 0, or a byte 1 and what the reader reads
-unfoldable pub maybe_at : {X : Type 0} → (List ℕ → Result (X × List ℕ) EventFault) → ℕ → List ℕ → Result (Option X × List ℕ) EventFault
+unfoldable pub maybe_at : {X : Type 0} → (List ℕ → Result (X × List ℕ) EventFault) → ℕ → List ℕ
+    → Result (Option X × List ℕ) EventFault
 maybe_at reader field bytes = flag_at field bytes >>= λ flag. behind_flag reader flag.0 flag.1
 
 -- the fields of these types in order: the number of each is that of the one before with a step
-abbrev pub taken_at : {T X : Type 0} {Held : T → Type 0} → ((type : T) → ℕ → List ℕ → Result (Held type × List ℕ) EventFault)
+abbrev pub taken_at : {T X : Type 0} {Held : T → Type 0}
+    → ((type : T) → ℕ → List ℕ → Result (Held type × List ℕ) EventFault)
     → ℕ → (types : List T) → Taking Held X types → ℕ → List ℕ → Result (X × List ℕ) EventFault
 taken_at held step [] value field bytes = Ok (value, bytes)
 taken_at held step (type ∷ types) taking field bytes =
@@ -80,13 +88,46 @@ plain_at words_type field bytes = text_at field bytes
 plain_at masks_type field bytes = masks_at schedule_ranges field bytes
 plain_at flag_type field bytes = flag_at field bytes
 
-abbrev pub settings_of_form : ℕ → Option Form → List ℕ → Result (FunctionSettings × List ℕ) EventFault
-settings_of_form field None bytes = Err (BadField field)
-settings_of_form field (Some form) bytes = taken_at plain_at 0 (types_of_form form) (made_settings form) field bytes
+-- the fields of a form, which all have the number of this field
+abbrev pub formed : {K X : Type 0} (types : K → List PlainType) → ((form : K) → Taking HeldPlain X (types form))
+    → ℕ → Option K → List ℕ → Result (X × List ℕ) EventFault
+formed types made field None bytes = Err (BadField field)
+formed types made field (Some form) bytes = taken_at plain_at 0 (types form) (made form) field bytes
 
--- the byte of a form, and the fields of that form, which all have the number of this field
+-- the byte of a form, and the fields of that form
 unfoldable pub settings_at : ℕ → List ℕ → Result (FunctionSettings × List ℕ) EventFault
-settings_at field bytes = byte_at field bytes >>= λ form. settings_of_form field (form_at form.0) form.1
+settings_at field bytes =
+    byte_at field bytes >>= λ form. formed types_of_form made_settings field (form_at form.0) form.1
+
+-- the byte of a form, and the fields of that form
+unfoldable pub output_at : ℕ → List ℕ → Result (Output × List ℕ) EventFault
+output_at field bytes =
+    byte_at field bytes >>= λ form. formed types_of_output_form made_output field (output_form_at form.0) form.1
+
+-- so many outputs
+abbrev pub outputs_in_turn : ℕ → ℕ → List ℕ → Result (List Output × List ℕ) EventFault
+outputs_in_turn field zero bytes = Ok ([], bytes)
+outputs_in_turn field (suc n) bytes = do
+  first ← output_at field bytes
+  others ← outputs_in_turn field n first.1
+  Ok (first.0 ∷ others.0, others.1)
+
+-- how many items a list has
+unfoldable pub count_at : ℕ → List ℕ → Result (ℕ × List ℕ) EventFault
+count_at field bytes = do
+  n ← number_at w32 field bytes
+  if nat_lt longest_list n.0 then Err (LongField field) else Ok n
+
+unfoldable pub outputs_at : ℕ → List ℕ → Result (List Output × List ℕ) EventFault
+outputs_at field bytes = count_at field bytes >>= λ n. outputs_in_turn field n.0 n.1
+
+abbrev pub outcome_behind : ℕ → Bool → List ℕ → Result (Outcome × List ℕ) EventFault
+outcome_behind field false bytes = text_at field bytes >>= λ cause. Ok (Failed cause.0, cause.1)
+outcome_behind field true bytes = outputs_at field bytes >>= λ outputs. Ok (Done outputs.0, outputs.1)
+
+-- a byte 0 and the cause, or a byte 1 and the outputs; all fields have the number of this field
+unfoldable pub outcome_at : ℕ → List ℕ → Result (Outcome × List ℕ) EventFault
+outcome_at field bytes = flag_at field bytes >>= λ success. outcome_behind field success.0 success.1
 
 abbrev pub held_at : (type : FieldType) → ℕ → List ℕ → Result (Held type × List ℕ) EventFault
 held_at Number field bytes = number_at w64 field bytes
@@ -94,6 +135,7 @@ held_at Words field bytes = text_at field bytes
 held_at MaybeNumber field bytes = maybe_at (number_at w64 field) field bytes
 held_at MaybeWords field bytes = maybe_at (text_at field) field bytes
 held_at Settings field bytes = settings_at field bytes
+held_at OutcomeType field bytes = outcome_at field bytes
 
 abbrev pub command_of_kind : ℕ → Option Kind → List ℕ → Result (Command × List ℕ) EventFault
 command_of_kind n None bytes = Err (BadKind n)

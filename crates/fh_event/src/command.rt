@@ -1,4 +1,5 @@
 // Commands.
+use crate::outcome::Outcome;
 use crate::settings::FunctionSettings;
 use fh_base::Text;
 
@@ -79,6 +80,8 @@ pub enum Command {
         function: Text,
         settings: FunctionSettings,
     },
+    /// Begins a session: ready jobs and running invocations are dropped.
+    Session,
     /// Begins to watch the schedule of a timer function.
     Arm {
         function: Text,
@@ -87,6 +90,24 @@ pub enum Command {
     Tick {
         function: Text,
     },
+    /// Holds the first visible messages of a function's queue, and makes them its ready jobs.
+    Fetch {
+        function: Text,
+    },
+    /// Makes the first ready job of a function a running invocation. The halves are those of 16 random bytes,
+    /// from which the invocation's id is made.
+    Begin {
+        function: Text,
+        high: u64,
+        low: u64,
+    },
+    /// Ends an invocation.
+    Finish {
+        invocation: u64,
+        outcome: Outcome,
+    },
+    /// Holds anew what running invocations hold, where a hold ends soon.
+    Renewals,
     /// Reads the first visible messages.
     Peek {
         queue: Text,

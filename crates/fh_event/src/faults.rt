@@ -62,7 +62,7 @@ pub enum EventFault {
     BadKind { kind: u8 },
     /// The bytes end inside this field.
     ShortField { field: u8 },
-    /// The text of this field has more than 16,777,216 bytes.
+    /// A text of this field has more than 16,777,216 bytes, or its list more than 65,536 items.
     LongField { field: u8 },
     /// A moment is too late, a text is no UTF-8, a byte is none of those that may stand there, or a mask is
     /// empty or has a number outside its field of a schedule.

@@ -8,11 +8,13 @@
 //! a reply or a rule.
 #![tactic(auto)]
 
+mod begun;
 mod command;
 mod faults;
 mod laws;
 mod lines;
 mod masks;
+mod outcome;
 mod reading;
 mod reply;
 mod settings;
@@ -20,19 +22,24 @@ mod sizes;
 mod tables;
 mod writing;
 
+pub use begun::{About, Begun, BegunJob};
 pub use command::Command;
 pub use faults::{EventFault, PlanFault, StepFault};
 pub use laws::{entries_have_one_reading, tables_are_those_of_the_grammar};
 pub use lines::answer_text;
+pub use outcome::{LONGEST_LIST, Outcome, Output, Outputs};
 pub use reading::decode;
-pub use reply::{Item, Items, Place, Reply};
+pub use reply::{FetchedJob, FetchedJobs, Item, Items, Place, RenewalPart, RenewalParts, Reply};
 pub use settings::FunctionSettings;
 pub use sizes::entry_size;
 pub use tables::{
-    ACQUIRE, ARM, CLEAR, CONFIGURE, DELETE, DELETE_BLOB, FieldType, GET_BLOB, LOCATE, MAKE_QUEUE,
-    NOTE, PEEK, PUT, PUT_BLOB, RELEASE_LEASE, RENEW_LEASE, TAKE, TICK, Table, UNNOTED, UPDATE,
+    ACQUIRE, ARM, BEGIN, CLEAR, CONFIGURE, DELETE, DELETE_BLOB, FETCH, FINISH, FieldType, GET_BLOB,
+    LOCATE, MAKE_QUEUE, NOTE, PEEK, PUT, PUT_BLOB, RELEASE_LEASE, RENEW_LEASE, RENEWALS, SESSION,
+    TAKE, TICK, Table, UNNOTED, UPDATE,
 };
 pub use writing::encode;
 
+#[cfg(test)]
+mod job_tests;
 #[cfg(test)]
 mod tests;

@@ -2,9 +2,10 @@
 ghost use Rattle.std.specs.Prelude.{◌≡◌, ◌++◌, length, IfOk, OnOk};
 ghost use Rattle.std.specs.List.{flat_map};
 ghost use Rattle.std.specs.String.{string_bytes};
-ghost use Rattle.fh_event.specs.Lines.{escaped, spaced_time, rule_values, rule_line, taken_item, peeked_item, listed_name, place_line, reply_line, answer_line};
+ghost use Rattle.fh_event.specs.Lines.{escaped, spaced, spaced_time, rule_values, rule_line, taken_item, peeked_item, fetched_item, renewed_item, broken_rule, job_numbers, listed_name, place_line, reply_line, answer_line};
 
-use crate::reply::{Item, Place, Reply};
+use crate::begun::BegunJob;
+use crate::reply::{FetchedJob, Item, Place, RenewalPart, Reply};
 use fh_base::{NoMemory, Rule, Text};
 use percent_encoding::{AsciiSet, CONTROLS, ascii_set, percent_encode};
 use std::alloc::Global;
@@ -108,6 +109,42 @@ fn push_reply(line: &mut String, reply: &Reply) -> Result<(), NoMemory>
         Reply::Running => line.push_str("quiet running")?,
         Reply::Unarmed => line.push_str("quiet unarmed")?,
         Reply::NotDue => line.push_str("quiet notdue")?,
+        Reply::SessionBegun { session } => write!(line, "ok {session}")?,
+        Reply::Fetched { jobs } => {
+            let jobs = jobs.as_slice();
+            let count = jobs.len();
+            write!(line, "ok {count}")?;
+            push_fetched(line, jobs)?;
+        }
+        Reply::Busy { in_work } => write!(line, "quiet busy {in_work}")?,
+        Reply::NoJob => line.push_str("quiet idle")?,
+        Reply::JobDropped { number } => write!(line, "ok dropped {number}")?,
+        Reply::JobPoisoned { copy, broken } => push_ended(line, "ok poisoned", *copy, *broken)?,
+        Reply::Blocked { holder, until } => {
+            line.push_str("quiet blocked")?;
+            write!(line, " {holder} {until}")?;
+        }
+        Reply::Begun { begun } => {
+            let invocation = begun.invocation;
+            write!(line, "ok begun {invocation}")?;
+            push_job(line, &begun.job)?;
+        }
+        Reply::JobLost => line.push_str("ok lost")?,
+        Reply::JobDone => line.push_str("ok done")?,
+        Reply::JobFailed { broken } => {
+            line.push_str("ok failed")?;
+            push_broken(line, *broken)?;
+        }
+        Reply::JobReleased { visible_at, broken } => {
+            push_ended(line, "ok released", *visible_at, *broken)?;
+        }
+        Reply::HoldsRenewed { parts } => {
+            let parts = parts.as_slice();
+            let count = parts.len();
+            write!(line, "ok {count}")?;
+            push_renewed(line, parts)?;
+        }
+        Reply::NothingDue => line.push_str("quiet none")?,
         Reply::Got { version, text } => {
             write!(line, "is {version} ")?;
             push_escaped(line, text.as_str().as_bytes())?;
@@ -130,6 +167,86 @@ fn push_time(line: &mut String, time: Option<u64>) -> Result<(), NoMemory>
     match time {
         None => line.push_str(" -")?,
         Some(time) => write!(line, " {time}")?,
+    }
+    Ok(())
+}
+
+#[tactic(auto, using(crate::proofs::Joining::joining))]
+fn push_ended(
+    line: &mut String,
+    ended: &str,
+    number: u64,
+    broken: Option<u64>,
+) -> Result<(), NoMemory>
+    ensures { OnOk result
+        (string_bytes line.new ≡ string_bytes line.old ++ (ended.now ++ spaced number ++ broken_rule broken)) }
+{
+    line.push_str(ended)?;
+    write!(line, " {number}")?;
+    push_broken(line, broken)
+}
+
+#[tactic(auto, using(crate::proofs::Joining::joining))]
+fn push_broken(line: &mut String, broken: Option<u64>) -> Result<(), NoMemory>
+    ensures { OnOk result (string_bytes line.new ≡ string_bytes line.old ++ broken_rule broken) }
+{
+    if let Some(rule) = broken {
+        write!(line, " rule {rule}")?;
+    }
+    Ok(())
+}
+
+#[tactic(auto, using(crate::proofs::Joining::joining))]
+fn push_job(line: &mut String, job: &BegunJob) -> Result<(), NoMemory>
+    ensures { OnOk result (string_bytes line.new ≡ string_bytes line.old ++ job_numbers job.now) }
+{
+    match job {
+        BegunJob::Timer { .. } => line.push_str(" 0 0")?,
+        BegunJob::Message { number, count, .. } => write!(line, " {number} {count}")?,
+    }
+    Ok(())
+}
+
+fn push_fetched(line: &mut String, jobs: &[FetchedJob]) -> Result<(), NoMemory>
+    ensures { OnOk result (string_bytes line.new ≡ string_bytes line.old ++ flat_map fetched_item jobs.now) }
+{
+    for job in jobs {
+        push_fetched_item(line, job)?;
+    }
+    Ok(())
+}
+
+#[tactic(auto, using(crate::proofs::Joining::joining))]
+fn push_fetched_item(line: &mut String, job: &FetchedJob) -> Result<(), NoMemory>
+    ensures { OnOk result (string_bytes line.new ≡ string_bytes line.old ++ fetched_item job.now) }
+{
+    let number = job.number;
+    let receipt = job.receipt;
+    let count = job.count;
+    write!(line, " {number}:{receipt}:{count}")?;
+    Ok(())
+}
+
+fn push_renewed(line: &mut String, parts: &[RenewalPart]) -> Result<(), NoMemory>
+    ensures { OnOk result (string_bytes line.new ≡ string_bytes line.old ++ flat_map renewed_item parts.now) }
+{
+    for part in parts {
+        push_renewed_item(line, part)?;
+    }
+    Ok(())
+}
+
+#[tactic(auto, using(crate::proofs::Joining::joining))]
+fn push_renewed_item(line: &mut String, part: &RenewalPart) -> Result<(), NoMemory>
+    ensures { OnOk result (string_bytes line.new ≡ string_bytes line.old ++ renewed_item part.now) }
+{
+    match part {
+        RenewalPart::Message {
+            invocation,
+            receipt,
+            until,
+        } => write!(line, " m{invocation}:{receipt}:{until}")?,
+        RenewalPart::Lease { invocation, until } => write!(line, " l{invocation}:{until}")?,
     }
     Ok(())
 }

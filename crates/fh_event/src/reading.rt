@@ -2,18 +2,19 @@
 ghost use Rattle.std.specs.Prelude.{ℕ, ◌<◌, ◌≤◌, Ok, IfOk};
 ghost use Rattle.std.specs.Int.{w32, w64};
 ghost use Rattle.fh_event.specs.Answers.{Gives};
-ghost use Rattle.fh_event.specs.Reading.{byte_at, number_at, text_at, flag_at, mask_at, masks_at, maybe_at, settings_at, command_at, entry_read};
+ghost use Rattle.fh_event.specs.Reading.{byte_at, number_at, text_at, flag_at, mask_at, masks_at, maybe_at, settings_at, output_at, outputs_in_turn, count_at, outputs_at, outcome_at, command_at, entry_read};
 ghost use Rattle.fh_event.specs.Masks.{schedule_ranges};
 ghost use Rattle.fh_event.specs.Entries.{IsEntry};
 
 use crate::command::Command;
 use crate::faults::EventFault;
 use crate::masks::is_mask;
+use crate::outcome::{LONGEST_LIST, Outcome, Output, Outputs};
 use crate::settings::FunctionSettings;
 use crate::tables::{
-    acquire, arm, blob_settings, clear, configure, delete, delete_blob, get_blob, locate,
-    make_queue, note, peek, put, put_blob, queue_settings, release_lease, renew_lease, take, tick,
-    timer_settings, unnoted, update,
+    acquire, arm, begin, blob_output, blob_settings, clear, configure, delete, delete_blob, fetch,
+    finish, get_blob, locate, make_queue, note, peek, put, put_blob, queue_output, queue_settings,
+    release_lease, renew_lease, renewals, session, take, tick, timer_settings, unnoted, update,
 };
 use fh_base::{LONGEST_PAYLOAD, Moment, Text, utf8_text};
 use std::alloc::Global;
@@ -164,6 +165,7 @@ macro_rules! held {
     (MaybeNumber $alloc:ident $field:literal $rest:ident) => { maybe_number_of($field, $rest) };
     (MaybeWords $alloc:ident $field:literal $rest:ident) => { maybe_text_of($alloc, $field, $rest) };
     (Settings $alloc:ident $field:literal $rest:ident) => { settings_of($alloc, $rest) };
+    (Outcome $alloc:ident $field:literal $rest:ident) => { outcome_of($alloc, $rest) };
     (Masks $alloc:ident $field:literal $rest:ident) => { masks_of($field, $rest) };
     (Flag $alloc:ident $field:literal $rest:ident) => { flag_of($field, $rest) };
 }
@@ -186,6 +188,73 @@ fn settings_of(alloc: Global, bytes: &[u8]) -> Result<(FunctionSettings, &[u8]),
     }
 }
 
+// The field of a command that holds the outcome of an invocation.
+const OUTCOME_FIELD: u8 = 2;
+
+#[tactic(auto, unfolding(crate::specs::Reading::outcome_at))]
+fn outcome_of(alloc: Global, bytes: &[u8]) -> Result<(Outcome, &[u8]), EventFault>
+    ensures { Gives (λ x. (x.0, x.1.now)) result (outcome_at 2 bytes.now) }
+{
+    let (is_success, rest) = flag_of(OUTCOME_FIELD, bytes)?;
+    if !is_success {
+        let (cause, rest) = text_of(alloc, OUTCOME_FIELD, rest)?;
+        return Ok((Outcome::Failed { cause }, rest));
+    }
+    let (outputs, rest) = outputs_of(alloc, rest)?;
+    Ok((Outcome::Done { outputs }, rest))
+}
+
+#[tactic(auto, unfolding(crate::specs::Reading::outputs_at))]
+fn outputs_of(alloc: Global, bytes: &[u8]) -> Result<(Outputs, &[u8]), EventFault>
+    ensures { Gives (λ x. (x.0, x.1.now)) result (outputs_at 2 bytes.now) }
+{
+    let (count, rest) = count_of(OUTCOME_FIELD, bytes)?;
+    outputs_in_turn(alloc, count, rest)
+}
+
+#[tactic(auto, unfolding(crate::specs::Reading::count_at))]
+fn count_of(field: u8, bytes: &[u8]) -> Result<(usize, &[u8]), EventFault>
+    ensures { Gives (λ x. (x.0, x.1.now)) result (count_at field bytes.now) }
+{
+    let (count, rest) = length_of(field, bytes)?;
+    let count = count as usize;
+    if count > LONGEST_LIST {
+        return Err(EventFault::LongField { field });
+    }
+    Ok((count, rest))
+}
+
+fn outputs_in_turn(
+    alloc: Global,
+    count: usize,
+    bytes: &[u8],
+) -> Result<(Outputs, &[u8]), EventFault>
+    ensures { Gives (λ x. (x.0, x.1.now)) result (outputs_in_turn 2 count bytes.now) }
+{
+    let mut outputs = Vec::new(alloc);
+    let mut rest = bytes;
+    for turn in 0..count {
+        let (output, behind) = output_of(alloc, rest)?;
+        outputs.push(output)?;
+        rest = behind;
+    }
+    Ok((Outputs::new(outputs), rest))
+}
+
+#[tactic(auto, unfolding(crate::specs::Reading::output_at, crate::specs::Outcomes::output_form_at))]
+fn output_of(alloc: Global, bytes: &[u8]) -> Result<(Output, &[u8]), EventFault>
+    ensures { Gives (λ x. (x.0, x.1.now)) result (output_at 2 bytes.now) }
+{
+    let (form, rest) = byte_of(OUTCOME_FIELD, bytes)?;
+    match form {
+        1 => queue_output!(reader Output alloc rest),
+        2 => blob_output!(reader Output alloc rest),
+        _ => Err(EventFault::BadField {
+            field: OUTCOME_FIELD,
+        }),
+    }
+}
+
 #[tactic(auto, unfolding(crate::specs::Reading::command_at, crate::specs::Kinds::kind_at))]
 fn command_of(alloc: Global, kind: u8, rest: &[u8]) -> Result<(Command, &[u8]), EventFault>
     ensures { Gives (λ x. (x.0, x.1.now)) result (command_at kind rest.now) }
@@ -204,8 +273,13 @@ fn command_of(alloc: Global, kind: u8, rest: &[u8]) -> Result<(Command, &[u8]), 
         11 => renew_lease!(reader Command alloc rest),
         12 => release_lease!(reader Command alloc rest),
         13 => configure!(reader Command alloc rest),
+        14 => session!(reader Command alloc rest),
         15 => arm!(reader Command alloc rest),
         16 => tick!(reader Command alloc rest),
+        17 => fetch!(reader Command alloc rest),
+        18 => begin!(reader Command alloc rest),
+        19 => finish!(reader Command alloc rest),
+        20 => renewals!(reader Command alloc rest),
         21 => peek!(reader Command alloc rest),
         22 => get_blob!(reader Command alloc rest),
         23 => locate!(reader Command alloc rest),

@@ -13,6 +13,9 @@ pub enum FieldType {
     MaybeWords,
     /// A byte that names the form of a function's settings, and the fields of that form.
     Settings,
+    /// A byte 0 and the cause of a failure, or a byte 1 and a list of outputs: its length in four bytes, and
+    /// for each output a byte that names its form, and the fields of that form.
+    Outcome,
 }
 
 /// One kind of command: its number, and the types of its fields in order.
@@ -91,12 +94,32 @@ macro_rules! configure {
     ($with:ident $($args:tt)*) => { $with!([$($args)*] 13 Configure { 1 function: Words, 2 settings: Settings }) };
 }
 
+macro_rules! session {
+    ($with:ident $($args:tt)*) => { $with!([$($args)*] 14 Session {}) };
+}
+
 macro_rules! arm {
     ($with:ident $($args:tt)*) => { $with!([$($args)*] 15 Arm { 1 function: Words }) };
 }
 
 macro_rules! tick {
     ($with:ident $($args:tt)*) => { $with!([$($args)*] 16 Tick { 1 function: Words }) };
+}
+
+macro_rules! fetch {
+    ($with:ident $($args:tt)*) => { $with!([$($args)*] 17 Fetch { 1 function: Words }) };
+}
+
+macro_rules! begin {
+    ($with:ident $($args:tt)*) => { $with!([$($args)*] 18 Begin { 1 function: Words, 2 high: Number, 3 low: Number }) };
+}
+
+macro_rules! finish {
+    ($with:ident $($args:tt)*) => { $with!([$($args)*] 19 Finish { 1 invocation: Number, 2 outcome: Outcome }) };
+}
+
+macro_rules! renewals {
+    ($with:ident $($args:tt)*) => { $with!([$($args)*] 20 Renewals {}) };
 }
 
 macro_rules! peek {
@@ -138,6 +161,18 @@ macro_rules! timer_settings {
     };
 }
 
+// The forms of an output of an invocation. Their fields have the number of the field of the command that holds
+// the outcome.
+macro_rules! queue_output {
+    ($with:ident $($args:tt)*) => { $with!([$($args)*] 1 Queue { 2 queue: Words, 2 text: Words }) };
+}
+
+macro_rules! blob_output {
+    ($with:ident $($args:tt)*) => {
+        $with!([$($args)*] 2 Blob { 2 container: Words, 2 blob: Words, 2 text: Words })
+    };
+}
+
 // Hands the table of a command's kind to the macro of that name, as above.
 macro_rules! of_command {
     ($command:ident $with:ident $($args:tt)*) => {
@@ -155,8 +190,13 @@ macro_rules! of_command {
             Command::RenewLease { .. } => renew_lease!($with $($args)*),
             Command::ReleaseLease { .. } => release_lease!($with $($args)*),
             Command::Configure { .. } => configure!($with $($args)*),
+            Command::Session { .. } => session!($with $($args)*),
             Command::Arm { .. } => arm!($with $($args)*),
             Command::Tick { .. } => tick!($with $($args)*),
+            Command::Fetch { .. } => fetch!($with $($args)*),
+            Command::Begin { .. } => begin!($with $($args)*),
+            Command::Finish { .. } => finish!($with $($args)*),
+            Command::Renewals { .. } => renewals!($with $($args)*),
             Command::Peek { .. } => peek!($with $($args)*),
             Command::GetBlob { .. } => get_blob!($with $($args)*),
             Command::Locate { .. } => locate!($with $($args)*),
@@ -176,30 +216,48 @@ macro_rules! of_settings {
     };
 }
 
+// Hands the table of the form of an output to the macro of that name, as above.
+macro_rules! of_output {
+    ($output:ident $with:ident $($args:tt)*) => {
+        match $output {
+            Output::Queue { .. } => queue_output!($with $($args)*),
+            Output::Blob { .. } => blob_output!($with $($args)*),
+        }
+    };
+}
+
 macro_rules! kind {
     ([] $kind:literal $variant:ident { $($field:literal $name:ident: $type:ident),* }) => { $kind };
 }
 
 pub(crate) use acquire;
 pub(crate) use arm;
+pub(crate) use begin;
+pub(crate) use blob_output;
 pub(crate) use blob_settings;
 pub(crate) use clear;
 pub(crate) use configure;
 pub(crate) use delete;
 pub(crate) use delete_blob;
+pub(crate) use fetch;
+pub(crate) use finish;
 pub(crate) use get_blob;
 pub(crate) use kind;
 pub(crate) use locate;
 pub(crate) use make_queue;
 pub(crate) use note;
 pub(crate) use of_command;
+pub(crate) use of_output;
 pub(crate) use of_settings;
 pub(crate) use peek;
 pub(crate) use put;
 pub(crate) use put_blob;
+pub(crate) use queue_output;
 pub(crate) use queue_settings;
 pub(crate) use release_lease;
 pub(crate) use renew_lease;
+pub(crate) use renewals;
+pub(crate) use session;
 pub(crate) use take;
 pub(crate) use tick;
 pub(crate) use timer_settings;
@@ -238,9 +296,19 @@ pub const RELEASE_LEASE: Table<2> = release_lease!(table);
 
 pub const CONFIGURE: Table<2> = configure!(table);
 
+pub const SESSION: Table<0> = session!(table);
+
 pub const ARM: Table<1> = arm!(table);
 
 pub const TICK: Table<1> = tick!(table);
+
+pub const FETCH: Table<1> = fetch!(table);
+
+pub const BEGIN: Table<3> = begin!(table);
+
+pub const FINISH: Table<2> = finish!(table);
+
+pub const RENEWALS: Table<0> = renewals!(table);
 
 pub const PEEK: Table<2> = peek!(table);
 

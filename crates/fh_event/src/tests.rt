@@ -1,5 +1,5 @@
 ghost use Rattle.std.specs.Prelude.{IfOk};
-ghost use Rattle.fh_event.specs.Entries.{GivesGoodMasks};
+ghost use Rattle.fh_event.specs.Entries.{GivesGoodMasks, GivesShortList};
 
 use super::*;
 use fh_base::{Moment, QueueName, Rule, Text, Texts, utf8_text};
@@ -15,14 +15,16 @@ const PUT_HI: [u8; 34] = [
 ];
 
 fn make_orders(rt: &HostRuntime) -> Result<Command, Fail>
-    ensures { IfOk result (λ command. GivesGoodMasks command) }
+    ensures masks { IfOk result (λ command. GivesGoodMasks command) }
+    ensures list { IfOk result (λ command. GivesShortList command) }
 {
     let queue = Text::from_str(rt.alloc(), "orders")?;
     Ok(Command::MakeQueue { queue })
 }
 
 fn put_hi(rt: &HostRuntime) -> Result<Command, Fail>
-    ensures { IfOk result (λ command. GivesGoodMasks command) }
+    ensures masks { IfOk result (λ command. GivesGoodMasks command) }
+    ensures list { IfOk result (λ command. GivesShortList command) }
 {
     let queue = Text::from_str(rt.alloc(), "orders")?;
     let text = Text::from_str(rt.alloc(), "hi")?;
@@ -35,8 +37,14 @@ fn put_hi(rt: &HostRuntime) -> Result<Command, Fail>
 }
 
 // The command is written at the moment as these bytes.
-fn expect_bytes(rt: &HostRuntime, command: &Command, ms: u64, bytes: &[u8]) -> Result<(), Fail>
-    requires { GivesGoodMasks command.now }
+pub(crate) fn expect_bytes(
+    rt: &HostRuntime,
+    command: &Command,
+    ms: u64,
+    bytes: &[u8],
+) -> Result<(), Fail>
+    requires masks { GivesGoodMasks command.now }
+    requires list { GivesShortList command.now }
 {
     let moment = Moment::new(ms).ok_or("a moment")?;
     let size = entry_size(command);
@@ -91,7 +99,8 @@ const CONFIGURED: [u8; 65] = [
 ];
 
 fn configure_orders(rt: &HostRuntime) -> Result<Command, Fail>
-    ensures { IfOk result (λ command. GivesGoodMasks command) }
+    ensures masks { IfOk result (λ command. GivesGoodMasks command) }
+    ensures list { IfOk result (λ command. GivesShortList command) }
 {
     let function = Text::from_str(rt.alloc(), "f")?;
     let queue = Text::from_str(rt.alloc(), "orders")?;
@@ -150,7 +159,8 @@ const FIVE_MINUTES: [u64; 6] = [
 
 #[tactic(auto, unfolding(crate::specs::Masks::is_mask))]
 fn configure_timer(rt: &HostRuntime) -> Result<Command, Fail>
-    ensures { IfOk result (λ command. GivesGoodMasks command) }
+    ensures masks { IfOk result (λ command. GivesGoodMasks command) }
+    ensures list { IfOk result (λ command. GivesShortList command) }
 {
     let function = Text::from_str(rt.alloc(), "t")?;
     Ok(Command::Configure {
@@ -243,14 +253,16 @@ const ARMED: [u8; 14] = [0, 0, 0, 0, 0, 0, 0, 0, 15, 0, 0, 0, 1, 0x74];
 const TICKED: [u8; 14] = [0, 0, 0, 0, 0, 0, 0, 0, 16, 0, 0, 0, 1, 0x74];
 
 fn arm(rt: &HostRuntime) -> Result<Command, Fail>
-    ensures { IfOk result (λ command. GivesGoodMasks command) }
+    ensures masks { IfOk result (λ command. GivesGoodMasks command) }
+    ensures list { IfOk result (λ command. GivesShortList command) }
 {
     let function = Text::from_str(rt.alloc(), "t")?;
     Ok(Command::Arm { function })
 }
 
 fn tick(rt: &HostRuntime) -> Result<Command, Fail>
-    ensures { IfOk result (λ command. GivesGoodMasks command) }
+    ensures masks { IfOk result (λ command. GivesGoodMasks command) }
+    ensures list { IfOk result (λ command. GivesShortList command) }
 {
     let function = Text::from_str(rt.alloc(), "t")?;
     Ok(Command::Tick { function })
@@ -295,7 +307,7 @@ fn a_tick_is_read(rt: HostRuntime) -> Result<(), Fail> {
 #[test]
 fn damaged_entries_have_their_first_fault(rt: HostRuntime) {
     let long = EventFault::LongField { field: 1 };
-    let cases: [(&[u8], EventFault); 23] = [
+    let cases: [(&[u8], EventFault); 24] = [
         (b"", EventFault::ShortField { field: 0 }),
         (b"\0\0\0\0\0\0\0", EventFault::ShortField { field: 0 }),
         (b"\0\0\0\0\0\0\0\0", EventFault::ShortField { field: 0 }),
@@ -349,10 +361,11 @@ fn damaged_entries_have_their_first_fault(rt: HostRuntime) {
             b"\0\0\0\0\0\0\0\0\x0d\0\0\0\x01f\x02\0\0\0\0\0\0\0\x10\0\0",
             EventFault::ShortField { field: 2 },
         ),
-        (b"\0\0\0\0\0\0\0\0\x0e", EventFault::BadKind { kind: 14 }),
         (b"\0\0\0\0\0\0\0\0\x0f", EventFault::ShortField { field: 1 }),
         (b"\0\0\0\0\0\0\0\0\x10", EventFault::ShortField { field: 1 }),
-        (b"\0\0\0\0\0\0\0\0\x11", EventFault::BadKind { kind: 17 }),
+        (b"\0\0\0\0\0\0\0\0\x11", EventFault::ShortField { field: 1 }),
+        (b"\0\0\0\0\0\0\0\0\x13", EventFault::ShortField { field: 1 }),
+        (b"\0\0\0\0\0\0\0\0\x19", EventFault::BadKind { kind: 25 }),
     ];
     for (bytes, expected) in cases {
         let fault = decode(rt.alloc(), bytes).err();

@@ -1,28 +1,33 @@
 // Writing entries.
 ghost use Rattle.std.specs.Prelude.{◌≡◌, ◌^◌, ◌<◌, ◌≤◌, [], ◌∷◌, ◌++◌, length, OnOk, OnErr, IfSome};
 ghost use Rattle.std.specs.List.{flat_map, AllByRecursion};
-ghost use Rattle.fh_event.specs.Fields.{number_bytes, text_bytes, maybe_bytes, flag_byte, spelled, IsText, IsField, IsShort};
+ghost use Rattle.fh_event.specs.Fields.{number_bytes, text_bytes, maybe_bytes, flag_byte, count_bytes, longest_list, spelled, IsText, IsField, IsShort};
+ghost use Rattle.fh_event.specs.Outcomes.{output_form_number, output_form_of, fields_behind_output_form, fields_of_output, fields_of_outputs, fields_of_outcome, HasShortList};
 ghost use Rattle.fh_event.specs.Settings.{form_number, form_of, fields_behind_form, fields_of_settings, HasGoodMasks};
 ghost use Rattle.fh_event.specs.Kinds.{kind_number, kind_of, fields_of};
 ghost use Rattle.fh_base.specs.Limits.{longest_payload};
-ghost use Rattle.fh_event.specs.Entries.{entry, HasShortTexts, GivesGoodMasks, AppendsEntry, Extends};
+ghost use Rattle.fh_event.specs.Entries.{entry, HasShortTexts, GivesGoodMasks, GivesShortList, AppendsEntry, Extends};
 
 use crate::command::Command;
+use crate::outcome::{Outcome, Output};
 use crate::settings::FunctionSettings;
 use crate::sizes::entry_size;
 use crate::tables::{
-    acquire, arm, blob_settings, clear, configure, delete, delete_blob, get_blob, kind, locate,
-    make_queue, note, of_command, of_settings, peek, put, put_blob, queue_settings, release_lease,
-    renew_lease, take, tick, timer_settings, unnoted, update,
+    acquire, arm, begin, blob_output, blob_settings, clear, configure, delete, delete_blob, fetch,
+    finish, get_blob, kind, locate, make_queue, note, of_command, of_output, of_settings, peek,
+    put, put_blob, queue_output, queue_settings, release_lease, renew_lease, renewals, session,
+    take, tick, timer_settings, unnoted, update,
 };
 use fh_base::{Moment, NoMemory, Text};
 
-/// Appends the entry of the moment and the command, if no text has more than 16,777,216 bytes, and each mask of
-/// a schedule has numbers of its field. After want of memory nothing is appended.
+/// Appends the entry of the moment and the command, if no text has more than 16,777,216 bytes, each mask of a
+/// schedule has numbers of its field, and an outcome has at most 65,536 outputs. After want of memory nothing is
+/// appended.
 #[tactic(auto, using(crate::proofs::Extending::taken_back))]
 pub fn encode(command: &Command, moment: Moment, into: &mut Vec<u8>) -> Result<(), NoMemory>
     requires texts { HasShortTexts command.now }
     requires masks { GivesGoodMasks command.now }
+    requires list { GivesShortList command.now }
     ensures ok { OnOk result (AppendsEntry into.old.items into.new.items moment command.now) }
     ensures err { OnErr result (into.new.items ≡ into.old.items) }
 {
@@ -39,6 +44,7 @@ pub fn encode(command: &Command, moment: Moment, into: &mut Vec<u8>) -> Result<(
 fn put_entry(into: &mut Vec<u8>, moment: Moment, command: &Command) -> Result<(), NoMemory>
     requires texts { HasShortTexts command.now }
     requires masks { GivesGoodMasks command.now }
+    requires list { GivesShortList command.now }
     ensures ok { OnOk result (AppendsEntry into.old.items into.new.items moment command.now) }
     ensures err { OnErr result (Extends into.old.items into.new.items) }
 {
@@ -139,6 +145,7 @@ macro_rules! put_held {
     (MaybeNumber $into:ident $name:ident) => { put_maybe_number($into, $name) };
     (MaybeWords $into:ident $name:ident) => { put_maybe_text($into, $name) };
     (Settings $into:ident $name:ident) => { put_settings($into, $name) };
+    (Outcome $into:ident $name:ident) => { put_outcome($into, $name) };
     (Masks $into:ident $name:ident) => { put_masks($into, $name) };
     (Flag $into:ident $name:ident) => { put_flag($into, *$name) };
 }
@@ -176,9 +183,87 @@ fn form_of(settings: &FunctionSettings) -> u8
 }
 
 #[tactic(auto, using(crate::proofs::Extending::extending))]
+fn put_outcome(into: &mut Vec<u8>, outcome: &Outcome) -> Result<(), NoMemory>
+    requires texts { AllByRecursion IsShort (fields_of_outcome outcome.now) }
+    requires list { HasShortList outcome.now }
+    ensures ok { OnOk result
+        (into.new.items ≡ into.old.items ++ flat_map spelled (fields_of_outcome outcome.now)) }
+    ensures fields { OnOk result (AllByRecursion IsField (fields_of_outcome outcome.now)) }
+    ensures err { OnErr result (Extends into.old.items into.new.items) }
+{
+    match outcome {
+        Outcome::Failed { cause } => {
+            put_flag(into, false)?;
+            put_text(into, cause)
+        }
+        Outcome::Done { outputs } => {
+            put_flag(into, true)?;
+            put_outputs(into, outputs.as_slice())
+        }
+    }
+}
+
+#[tactic(auto, using(crate::proofs::Extending::extending))]
+fn put_outputs(into: &mut Vec<u8>, outputs: &[Output]) -> Result<(), NoMemory>
+    requires texts { AllByRecursion IsShort (fields_of_outputs outputs.now) }
+    requires list { length outputs.now ≤ longest_list }
+    ensures ok { OnOk result
+        (into.new.items ≡ into.old.items ++ flat_map spelled (fields_of_outputs outputs.now)) }
+    ensures fields { OnOk result (AllByRecursion IsField (fields_of_outputs outputs.now)) }
+    ensures err { OnErr result (Extends into.old.items into.new.items) }
+{
+    put_count(into, outputs.len())?;
+    put_outputs_in_turn(into, outputs)
+}
+
+#[tactic(auto, using(crate::proofs::Extending::extending), unfolding(crate::specs::Fields::count_bytes))]
+fn put_count(into: &mut Vec<u8>, count: usize) -> Result<(), NoMemory>
+    requires { count ≤ longest_list }
+    ensures ok { OnOk result (into.new.items ≡ into.old.items ++ count_bytes count) }
+    ensures grows { Extends into.old.items into.new.items }
+{
+    into.extend_from_slice(&(count as u32).to_be_bytes())?;
+    Ok(())
+}
+
+#[tactic(auto, using(crate::proofs::Extending::extending, crate::proofs::ListLaws::joined_step, crate::proofs::ListLaws::all_step, crate::proofs::ListLaws::all_at))]
+fn put_outputs_in_turn(into: &mut Vec<u8>, outputs: &[Output]) -> Result<(), NoMemory>
+    requires texts { AllByRecursion IsShort (flat_map fields_of_output outputs.now) }
+    ensures ok { OnOk result
+        (into.new.items ≡ into.old.items ++ flat_map spelled (flat_map fields_of_output outputs.now)) }
+    ensures fields { OnOk result (AllByRecursion IsField (flat_map fields_of_output outputs.now)) }
+    ensures err { OnErr result (Extends into.old.items into.new.items) }
+{
+    for output in outputs {
+        put_output(into, output)?;
+    }
+    Ok(())
+}
+
+#[tactic(auto, using(crate::proofs::Extending::extending))]
+fn put_output(into: &mut Vec<u8>, output: &Output) -> Result<(), NoMemory>
+    requires texts { AllByRecursion IsShort (fields_of_output output.now) }
+    ensures ok { OnOk result
+        (into.new.items ≡ into.old.items ++ flat_map spelled (fields_of_output output.now)) }
+    ensures fields { OnOk result (AllByRecursion IsField (fields_of_output output.now)) }
+    ensures err { OnErr result (Extends into.old.items into.new.items) }
+{
+    into.push(output_form_of(output))?;
+    of_output!(output writer Output into output);
+    Ok(())
+}
+
+fn output_form_of(output: &Output) -> u8
+    ensures { result ≡ output_form_number (output_form_of output.now) }
+{
+    of_output!(output kind)
+}
+
+#[tactic(auto, using(crate::proofs::Extending::extending))]
 fn put_fields(into: &mut Vec<u8>, command: &Command) -> Result<(), NoMemory>
     requires texts { HasShortTexts command.now }
     requires masks { GivesGoodMasks command.now }
+    requires list { GivesShortList command.now }
     ensures ok { OnOk result (into.new.items ≡ into.old.items ++ flat_map spelled (fields_of command.now)) }
     ensures fields { OnOk result (AllByRecursion IsField (fields_of command.now)) }
     ensures err { OnErr result (Extends into.old.items into.new.items) }
