@@ -10,7 +10,7 @@ use Rattle.fh_event.specs.declared.reply.Item.{Item}
 use Rattle.fh_event.specs.Judging.{Quiets, Makes, unless_refused}
 use Rattle.fh_queues.specs.declared.held.HeldMessage.{HeldMessage}
 use Rattle.fh_queues.specs.declared.row.Message.{Message}
-use Rattle.fh_queues.specs.declared.row.About.{About}
+use Rattle.fh_event.specs.declared.begun.About.{About}
 use Rattle.fh_queues.specs.declared.done.QueueDone.{QueueDone}
 use Rattle.fh_queues.specs.declared.done.QueueDone.TheVariants as done
 use Rattle.fh_queues.specs.declared.done.Ending.TheVariants as endings

@@ -2,7 +2,7 @@
 use Rattle.std.specs.Prelude.{ℕ, List, Option, option_map}
 use Rattle.fh_event.specs.declared.outcome.Output.{Output}
 use Rattle.fh_queues.specs.declared.held.HeldMessage.{HeldMessage}
-use Rattle.fh_queues.specs.declared.row.About.{About}
+use Rattle.fh_event.specs.declared.begun.About.{About}
 use Rattle.fh_queues.specs.declared.ask.QueueAsk.{QueueAsk}
 use Rattle.fh_queues.specs.declared.ask.QueueAsk.TheVariants as asks
 

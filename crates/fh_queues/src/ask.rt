@@ -1,7 +1,7 @@
 // What is asked of the queues.
-use crate::{About, HeldMessage};
+use crate::HeldMessage;
 use fh_base::{QueueName, Text};
-use fh_event::Outputs;
+use fh_event::{About, Outputs};
 
 /// A change that is asked for. Delays, times to live and holds are in seconds.
 #[derive(Clone, Copy)]

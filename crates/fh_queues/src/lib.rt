@@ -46,7 +46,7 @@ pub use laws::{
     receipts_guard_messages, receipts_only_rise, takes_list_visible_messages, texts_are_short,
 };
 pub use queues::Queues;
-pub use row::{About, Message, Subject};
+pub use row::{Message, Subject};
 pub use shared_name::SharedName;
 
 #[cfg(test)]

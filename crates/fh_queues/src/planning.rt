@@ -9,9 +9,9 @@ ghost use Rattle.fh_queues.specs.Faults.{IsPlanOf};
 
 use crate::act::{Act, NewMessage, RowChange, Which};
 use crate::choosing::taken_items;
-use crate::{About, Ending, Expiry, Message, QueueAsk, QueueChange, QueueDone, Queues, Subject};
+use crate::{Ending, Expiry, Message, QueueAsk, QueueChange, QueueDone, Queues, Subject};
 use fh_base::{Moment, NoMemory, QueueName, Rule, Text};
-use fh_event::{Item, PlanFault};
+use fh_event::{About, Item, PlanFault};
 use std::alloc::Global;
 
 /// Milliseconds of a second.

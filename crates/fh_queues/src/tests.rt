@@ -3,7 +3,7 @@ ghost use Rattle.fh_queues.specs.Edits.{IsIdle, HasNumbers};
 
 use super::*;
 use fh_base::{Moment, NoMemory, QueueName, Text};
-use fh_event::{PlanFault, Reply, answer_text};
+use fh_event::{About, PlanFault, Reply, answer_text};
 use std::alloc::{AllocGlobal, Global};
 use std::process::Abort;
 use std::test::Fail;
