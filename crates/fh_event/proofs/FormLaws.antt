@@ -23,31 +23,34 @@ plain_reads masks_type i = one_field masks (mask_lists i)
 plain_reads flag_type i = one_field flag (flags i)
 
 -- each form has its byte and its table
-pub record HasForms {K X : Type 0} (number_of : K → ℕ) (form_of : X → K) (fields_behind : X → List Field) (form_at : ℕ → Option K)
-    (types_of : K → List PlainType) (made : (k : K) → Taking HeldPlain X (types_of k)) : Type 0 where
+pub record HasForms {K X : Type 0} (number_of : K → ℕ) (form_of : X → K) (fields_behind : X → List Field)
+    (form_at : ℕ → Option K) (types_of : K → List PlainType) (made : (k : K) → Taking HeldPlain X (types_of k))
+    : Type 0 where
   pub table : IsTable plain_field form_of fields_behind types_of made
   pub found : (k : K) → form_at (number_of k) ≡ Some k
   pub numbered : (n : ℕ) (k : K) → form_at n ≡ Some k → number_of k ≡ n
   pub is_byte : (k : K) → number_of k < 2 ^ 8
 
-formed_takes : {K X : Type 0} {number_of : K → ℕ} {form_of : X → K} {fields_behind : X → List Field} {form_at : ℕ → Option K}
-    {types_of : K → List PlainType} {made : (k : K) → Taking HeldPlain X (types_of k)}
+formed_takes : {K X : Type 0} {number_of : K → ℕ} {form_of : X → K} {fields_behind : X → List Field}
+    {form_at : ℕ → Option K} {types_of : K → List PlainType} {made : (k : K) → Taking HeldPlain X (types_of k)}
     → HasForms number_of form_of fields_behind form_at types_of made
     → (i n : ℕ) (o : Option K) (bytes : List ℕ) (x : X × List ℕ) → IsBytes bytes → form_at n ≡ o
     → formed types_of made i o bytes ≡ Ok x
     → Takes (n ∷ bytes) (flat_map spelled (form (number_of (form_of x.0)) ∷ fields_behind x.0)) x.1
     × AllByRecursion IsField (form (number_of (form_of x.0)) ∷ fields_behind x.0)
 formed_takes forms i n None bytes x fits is e = absurd cc
-formed_takes {K} {X} {number_of} {form_of} {fields_behind} {form_at} {types_of} {made} forms i n (Some f) bytes x fits is e =
+formed_takes {K} {X} {number_of} {form_of} {fields_behind} {form_at} {types_of} {made} forms i n (Some f) bytes x
+    fits is e =
     let t = variant_takes plain_reads forms.table f 0 i bytes x fits e in
     let number-is : n ≡ number_of (form_of x.0) = sym (forms.numbered n f is) ∙ ap number_of (sym t.kind) in (
-      subst (λ (k : ℕ). Takes (k ∷ bytes) (flat_map spelled (form (number_of (form_of x.0)) ∷ fields_behind x.0)) x.1) (sym number-is)
+      subst (λ (k : ℕ). Takes (k ∷ bytes) (flat_map spelled (form (number_of (form_of x.0)) ∷ fields_behind x.0)) x.1)
+          (sym number-is)
           (Takes-one (number_of (form_of x.0)) bytes (flat_map spelled (fields_behind x.0)) x.1 t.taken),
       (forms.is_byte (form_of x.0), t.are_fields),
     )
 
-form_takes : {K X : Type 0} {number_of : K → ℕ} {form_of : X → K} {fields_behind : X → List Field} {form_at : ℕ → Option K}
-    {types_of : K → List PlainType} {made : (k : K) → Taking HeldPlain X (types_of k)}
+form_takes : {K X : Type 0} {number_of : K → ℕ} {form_of : X → K} {fields_behind : X → List Field}
+    {form_at : ℕ → Option K} {types_of : K → List PlainType} {made : (k : K) → Taking HeldPlain X (types_of k)}
     → HasForms number_of form_of fields_behind form_at types_of made
     → (i : ℕ) (bytes : List ℕ) (x : X × List ℕ) → IsBytes bytes
     → (byte_at i bytes >>= λ b. formed types_of made i (form_at b.0) b.1) ≡ Ok x
@@ -58,19 +61,20 @@ form_takes forms i [] x fits e = absurd cc
 form_takes {K} {X} {number_of} {form_of} {fields_behind} {form_at} forms i (n ∷ bytes) x fits e =
     formed_takes forms i n (form_at n) bytes x (IsBytes-rest n bytes fits) refl e
 
-form_again : {K X : Type 0} {number_of : K → ℕ} {form_of : X → K} {fields_behind : X → List Field} {form_at : ℕ → Option K}
-    {types_of : K → List PlainType} {made : (k : K) → Taking HeldPlain X (types_of k)}
+form_again : {K X : Type 0} {number_of : K → ℕ} {form_of : X → K} {fields_behind : X → List Field}
+    {form_at : ℕ → Option K} {types_of : K → List PlainType} {made : (k : K) → Taking HeldPlain X (types_of k)}
     → HasForms number_of form_of fields_behind form_at types_of made
     → (i : ℕ) (x : X) (rest : List ℕ) → AllByRecursion IsField (form (number_of (form_of x)) ∷ fields_behind x)
-    → (byte_at i (flat_map spelled (form (number_of (form_of x)) ∷ fields_behind x) ++ rest) >>= λ b. formed types_of made i (form_at b.0) b.1)
-    ≡ Ok (x, rest)
+    → (byte_at i (flat_map spelled (form (number_of (form_of x)) ∷ fields_behind x) ++ rest)
+    >>= λ b. formed types_of made i (form_at b.0) b.1) ≡ Ok (x, rest)
 unfolding byte_at
 form_again {K} {X} {number_of} {form_of} {fields_behind} {form_at} {types_of} {made} forms i x rest h =
-    ap (λ (o : Option K). formed types_of made i o (flat_map spelled (fields_behind x) ++ rest)) (forms.found (form_of x))
+    ap (λ (o : Option K). formed types_of made i o (flat_map spelled (fields_behind x) ++ rest))
+    (forms.found (form_of x))
     ∙ variant_again plain_reads forms.table x 0 i rest h.1
 
-pub formed_reads : {K X : Type 0} {number_of : K → ℕ} {form_of : X → K} {fields_behind : X → List Field} {form_at : ℕ → Option K}
-    {types_of : K → List PlainType} {made : (k : K) → Taking HeldPlain X (types_of k)}
+pub formed_reads : {K X : Type 0} {number_of : K → ℕ} {form_of : X → K} {fields_behind : X → List Field}
+    {form_at : ℕ → Option K} {types_of : K → List PlainType} {made : (k : K) → Taking HeldPlain X (types_of k)}
     → HasForms number_of form_of fields_behind form_at types_of made → (i : ℕ)
     → ReadsFields (λ bytes. byte_at i bytes >>= λ b. formed types_of made i (form_at b.0) b.1)
     (λ x. form (number_of (form_of x)) ∷ fields_behind x)

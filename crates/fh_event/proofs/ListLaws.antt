@@ -1,11 +1,12 @@
 -- Lists of lists, step by step: what holds of each item, and what the items are joined to.
-use Rattle.std.proofs.Common.{◌≡◌, ℕ, zero, suc, ◌+◌, ◌<◌, List, [], ◌∷◌, ◌++◌, length, get_or, take, refl, sym, ap, subst, ◌∙◌, arith}
+use Rattle.std.proofs.Common.{◌≡◌, ℕ, zero, suc, ◌+◌, ◌<◌, List, [], ◌∷◌, ◌++◌, length, get_or, take, sym, ap, subst, ◌∙◌, arith}
 use Rattle.std.specs.List.{flat_map, AllByRecursion}
 use Rattle.std.proofs.Math.Seq.{take-suc}
 use Rattle.std.proofs.lemmas.Grind.{flat_map-append}
 use Rattle.std.proofs.lemmas.List.{append-nil}
 
-pub all_joined : {X : Type 0} (P : X → Type 0) (xs ys : List X) → AllByRecursion P xs → AllByRecursion P ys → AllByRecursion P (xs ++ ys)
+pub all_joined : {X : Type 0} (P : X → Type 0) (xs ys : List X) → AllByRecursion P xs → AllByRecursion P ys
+    → AllByRecursion P (xs ++ ys)
 all_joined P [] ys a b = b
 all_joined P (x ∷ xs) ys a b = (a.0, all_joined P xs ys a.1 b)
 
@@ -33,9 +34,11 @@ joined_step f g xs i d lt =
     ap (flat_map g) (pieces_step f xs i d lt) ∙ flat_map-append g (flat_map f (take i xs)) (f (get_or xs i d))
 
 pub all_step : {X Y : Type 0} (P : Y → Type 0) (f : X → List Y) (xs : List X) (i : ℕ) (d : X) → i < length xs
-    → AllByRecursion P (flat_map f (take i xs)) → AllByRecursion P (f (get_or xs i d)) → AllByRecursion P (flat_map f (take (i + 1) xs))
+    → AllByRecursion P (flat_map f (take i xs)) → AllByRecursion P (f (get_or xs i d))
+    → AllByRecursion P (flat_map f (take (i + 1) xs))
 all_step {X} {Y} P f xs i d lt before now =
-    subst (λ (ys : List Y). AllByRecursion P ys) (sym (pieces_step f xs i d lt)) (all_joined P (flat_map f (take i xs)) (f (get_or xs i d)) before now)
+    subst (λ (ys : List Y). AllByRecursion P ys) (sym (pieces_step f xs i d lt))
+    (all_joined P (flat_map f (take i xs)) (f (get_or xs i d)) before now)
 
 -- what holds of all pieces holds of one
 pub all_at : {X Y : Type 0} (P : Y → Type 0) (f : X → List Y) (xs : List X) (i : ℕ) (d : X) → i < length xs

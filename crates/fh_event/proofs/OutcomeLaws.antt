@@ -10,21 +10,22 @@ use Rattle.fh_event.specs.declared.outcome.Outcome.TheVariants.{Failed, Done}
 use Rattle.fh_event.specs.declared.outcome.Output.{Output}
 use Rattle.fh_event.specs.declared.outcome.Output.TheVariants.{Queue, Blob}
 use Rattle.fh_event.specs.Answers.{◌>>=◌}
-use Rattle.fh_event.specs.Fields.{words, item_count, longest_list, count_bytes, flag_byte, spelled, IsField}
+use Rattle.fh_event.specs.Fields.{words, longest_list, count_bytes, flag_byte, spelled, IsField}
 use Rattle.fh_event.specs.Settings.{HeldPlain}
 use Rattle.fh_event.specs.Outcomes.{OutputForm, queue_output, blob_output, output_form_number, output_form_of, fields_behind_output_form, fields_of_output, fields_of_outputs, fields_of_outcome, all_output_forms, output_form_at, types_of_output_form, made_output}
 use Rattle.fh_event.specs.Reading.{number_at, text_at, flag_at, output_at, outputs_in_turn, count_at, outputs_at, outcome_behind, outcome_at}
 use Rattle.fh_event.proofs.ListLaws.{all_joined, all_first, all_others}
 use Rattle.fh_event.proofs.Steps.{bind_ok, passed, ok_is, IsBytes, Takes, Takes-then, Takes-one}
-use Rattle.fh_event.proofs.FieldLaws.{wide32, number_takes, number_again, texts, flags, Reads}
-use Rattle.fh_event.proofs.TableLaws.{ReadsFields, one_field, Values, applied, fields_with, IsTable, find_passes}
+use Rattle.fh_event.proofs.FieldLaws.{wide32, number_takes, number_again, texts, flags}
+use Rattle.fh_event.proofs.TableLaws.{ReadsFields, one_field, Values, applied, fields_with, find_passes}
 use Rattle.fh_event.proofs.FormLaws.{plain_field, HasForms, formed_reads}
 
 -- ---- an output
 
 agree : (f : OutputForm) (values : Values HeldPlain (types_of_output_form f))
     → (output_form_of (applied HeldPlain (types_of_output_form f) (made_output f) values) ≡ f)
-    × (fields_behind_output_form (applied HeldPlain (types_of_output_form f) (made_output f) values) ≡ fields_with plain_field (types_of_output_form f) values)
+    × (fields_behind_output_form (applied HeldPlain (types_of_output_form f) (made_output f) values)
+    ≡ fields_with plain_field (types_of_output_form f) values)
 agree queue_output values = (refl, refl)
 agree blob_output values = (refl, refl)
 
@@ -51,7 +52,8 @@ is_byte : (f : OutputForm) → output_form_number f < 2 ^ 8
 is_byte queue_output = omega arith
 is_byte blob_output = omega arith
 
-forms : HasForms output_form_number output_form_of fields_behind_output_form output_form_at types_of_output_form made_output
+forms : HasForms output_form_number output_form_of fields_behind_output_form output_form_at types_of_output_form
+    made_output
 forms = record {
   table = record { agrees = agree; values_of = values_of; rebuilt = rebuilt };
   found = found;
@@ -77,7 +79,9 @@ turns_take i zero bytes x fits e =
     subst (λ (y : List Output × List ℕ). TakesList 0 bytes y.0 y.1) (ok_is ([], bytes) x e)
     (record { taken = record { parts = refl; rest_fits = fits }; are_fields = tt; sized = refl })
 turns_take i (suc n) bytes x fits e =
-    let a = bind_ok (output_at i bytes) (λ first. outputs_in_turn i n first.1 >>= λ others. Ok (first.0 ∷ others.0, others.1)) x e in
+    let then = λ (first : Output × List ℕ).
+    outputs_in_turn i n first.1 >>= λ others. Ok (first.0 ∷ others.0, others.1) in
+    let a = bind_ok (output_at i bytes) then x e in
     let b = bind_ok (outputs_in_turn i n a.0.1) (λ others. Ok (a.0.0 ∷ others.0, others.1)) x a.2 in
     let first = (an_output i).takes bytes a.0 fits a.1 in
     let others = turns_take i n a.0.1 b.0 first.0.rest_fits b.1 in
@@ -91,17 +95,21 @@ turns_take i (suc n) bytes x fits e =
       sized = ap suc others.sized;
     })
 
-turns_again : (i : ℕ) (outputs : List Output) (rest : List ℕ) → AllByRecursion IsField (flat_map fields_of_output outputs)
-    → outputs_in_turn i (length outputs) (flat_map spelled (flat_map fields_of_output outputs) ++ rest) ≡ Ok (outputs, rest)
+turns_again : (i : ℕ) (outputs : List Output) (rest : List ℕ)
+    → AllByRecursion IsField (flat_map fields_of_output outputs)
+    → outputs_in_turn i (length outputs) (flat_map spelled (flat_map fields_of_output outputs) ++ rest)
+    ≡ Ok (outputs, rest)
 turns_again i [] rest h = refl
 turns_again i (o ∷ outputs) rest h =
     let front = fields_of_output o in
     let behind = flat_map fields_of_output outputs in
-    let regrouped : flat_map spelled (front ++ behind) ++ rest ≡ flat_map spelled front ++ (flat_map spelled behind ++ rest)
-    = ap (λ (t : List ℕ). t ++ rest) (flat_map-append spelled front behind) ∙ append_assoc (flat_map spelled front) (flat_map spelled behind) rest in
+    let first = flat_map spelled front in
+    let others = flat_map spelled behind in
+    let regrouped : flat_map spelled (front ++ behind) ++ rest ≡ first ++ (others ++ rest)
+    = ap (λ (t : List ℕ). t ++ rest) (flat_map-append spelled front behind) ∙ append_assoc first others rest in
     ap (outputs_in_turn i (suc (length outputs))) regrouped
     ∙ rw (
-      (an_output i).again o (flat_map spelled behind ++ rest) (all_first IsField front behind h),
+      (an_output i).again o (others ++ rest) (all_first IsField front behind h),
       turns_again i outputs rest (all_others IsField front behind h),
     )
     refl
@@ -115,7 +123,8 @@ count_takes i bytes x fits e =
     let b = bind_ok (number_at w32 i bytes) (λ n. cond (ltb longest_list n.0) (Err (LongField i)) (Ok n)) x e in
     let t = number_takes w32 (2 ^ 32) wide32 i bytes b.0.0 b.0.1 fits b.1 in
     let g = passed (ltb longest_list b.0.0) (LongField i) (Ok b.0) x b.2 in
-    subst (λ (y : ℕ × List ℕ). Takes bytes (count_bytes y.0) y.1 × (y.0 ≤ longest_list)) (ok_is b.0 x g.1) (t.0, ltb-false _ _ g.0)
+    subst (λ (y : ℕ × List ℕ). Takes bytes (count_bytes y.0) y.1 × (y.0 ≤ longest_list)) (ok_is b.0 x g.1)
+    (t.0, ltb-false _ _ g.0)
 
 count_again : (i n : ℕ) (rest : List ℕ) → n ≤ longest_list → count_at i (count_bytes n ++ rest) ≡ Ok (n, rest)
 unfolding count_at count_bytes
@@ -141,28 +150,32 @@ list_again : (i : ℕ) (outputs : List Output) (rest : List ℕ) → AllByRecurs
 unfolding outputs_at
 list_again i outputs rest h =
     let behind = flat_map spelled (flat_map fields_of_output outputs) in
-    ap (λ (t : List ℕ). count_at i t >>= λ n. outputs_in_turn i n.0 n.1) (append_assoc (count_bytes (length outputs)) behind rest)
+    ap (λ (t : List ℕ). count_at i t >>= λ n. outputs_in_turn i n.0 n.1)
+    (append_assoc (count_bytes (length outputs)) behind rest)
     ∙ rw (count_again i (length outputs) (behind ++ rest) h.0) (turns_again i outputs rest h.1)
 
 -- ---- an outcome
 
-behind_takes : (i : ℕ) (success : Bool) (bytes : List ℕ) (x : Outcome × List ℕ) → IsBytes bytes → outcome_behind i success bytes ≡ Ok x
-    → Takes (flag_byte success ∷ bytes) (flat_map spelled (fields_of_outcome x.0)) x.1 × AllByRecursion IsField (fields_of_outcome x.0)
+-- what an outcome took
+abbrev TakesOutcome : List ℕ → Outcome × List ℕ → Type 0
+TakesOutcome bytes x =
+    Takes bytes (flat_map spelled (fields_of_outcome x.0)) x.1 × AllByRecursion IsField (fields_of_outcome x.0)
+
+behind_takes : (i : ℕ) (success : Bool) (bytes : List ℕ) (x : Outcome × List ℕ) → IsBytes bytes
+    → outcome_behind i success bytes ≡ Ok x → TakesOutcome (flag_byte success ∷ bytes) x
 behind_takes i false bytes x fits e =
     let b = bind_ok (text_at i bytes) (λ cause. Ok (Failed cause.0, cause.1)) x e in
     let t = (one_field words (texts i)).takes bytes b.0 fits b.1 in
-    subst (λ (y : Outcome × List ℕ). Takes (0 ∷ bytes) (flat_map spelled (fields_of_outcome y.0)) y.1 × AllByRecursion IsField (fields_of_outcome y.0))
-    (ok_is (Failed b.0.0, b.0.1) x b.2)
+    subst (λ (y : Outcome × List ℕ). TakesOutcome (0 ∷ bytes) y) (ok_is (Failed b.0.0, b.0.1) x b.2)
     (Takes-one 0 bytes (flat_map spelled (words b.0.0 ∷ [])) b.0.1 t.0, (tt, t.1))
 behind_takes i true bytes x fits e =
     let b = bind_ok (outputs_at i bytes) (λ outputs. Ok (Done outputs.0, outputs.1)) x e in
     let t = list_takes i bytes b.0 fits b.1 in
-    subst (λ (y : Outcome × List ℕ). Takes (1 ∷ bytes) (flat_map spelled (fields_of_outcome y.0)) y.1 × AllByRecursion IsField (fields_of_outcome y.0))
-    (ok_is (Done b.0.0, b.0.1) x b.2)
+    subst (λ (y : Outcome × List ℕ). TakesOutcome (1 ∷ bytes) y) (ok_is (Done b.0.0, b.0.1) x b.2)
     (Takes-one 1 bytes (flat_map spelled (fields_of_outputs b.0.0)) b.0.1 t.0, (tt, t.1))
 
 outcome_takes : (i : ℕ) (bytes : List ℕ) (x : Outcome × List ℕ) → IsBytes bytes → outcome_at i bytes ≡ Ok x
-    → Takes bytes (flat_map spelled (fields_of_outcome x.0)) x.1 × AllByRecursion IsField (fields_of_outcome x.0)
+    → TakesOutcome bytes x
 unfolding outcome_at
 outcome_takes i bytes x fits e =
     let b = bind_ok (flag_at i bytes) (λ success. outcome_behind i success.0 success.1) x e in

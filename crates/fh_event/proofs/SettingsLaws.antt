@@ -5,18 +5,20 @@ use Rattle.fh_event.specs.declared.settings.FunctionSettings.{FunctionSettings}
 use Rattle.fh_event.specs.declared.settings.FunctionSettings.TheVariants.{Queue, Blob, Timer}
 use Rattle.fh_event.specs.Settings.{Form, queue_form, blob_form, timer_form, form_number, form_of, fields_behind_form, fields_of_settings, all_forms, form_at, HeldPlain, types_of_form, made_settings}
 use Rattle.fh_event.specs.Reading.{settings_at}
-use Rattle.fh_event.proofs.TableLaws.{ReadsFields, Values, applied, fields_with, IsTable, find_passes}
+use Rattle.fh_event.proofs.TableLaws.{ReadsFields, Values, applied, fields_with, find_passes}
 use Rattle.fh_event.proofs.FormLaws.{plain_field, HasForms, formed_reads}
 
 agree : (f : Form) (values : Values HeldPlain (types_of_form f))
     → (form_of (applied HeldPlain (types_of_form f) (made_settings f) values) ≡ f)
-    × (fields_behind_form (applied HeldPlain (types_of_form f) (made_settings f) values) ≡ fields_with plain_field (types_of_form f) values)
+    × (fields_behind_form (applied HeldPlain (types_of_form f) (made_settings f) values)
+    ≡ fields_with plain_field (types_of_form f) values)
 agree queue_form values = (refl, refl)
 agree blob_form values = (refl, refl)
 agree timer_form values = (refl, refl)
 
 abbrev values_of : (s : FunctionSettings) → Values HeldPlain (types_of_form (form_of s))
-values_of (Queue queue batch threshold limit retry singleton) = (queue, (batch, (threshold, (limit, (retry, (singleton, tt))))))
+values_of (Queue queue batch threshold limit retry singleton) =
+    (queue, (batch, (threshold, (limit, (retry, (singleton, tt))))))
 values_of (Blob batch threshold limit retry singleton) = (batch, (threshold, (limit, (retry, (singleton, tt)))))
 values_of (Timer times startup monitor singleton) = (times, (startup, (monitor, (singleton, tt))))
 

@@ -95,7 +95,8 @@ abbrev pub fields_of : Command → List Field
 fields_of (MakeQueue queue) = words queue ∷ []
 fields_of (Put queue delay ttl text) = words queue ∷ number delay ∷ maybe_number ttl ∷ words text ∷ []
 fields_of (Take queue count hold) = words queue ∷ number count ∷ number hold ∷ []
-fields_of (Update queue n receipt hold text) = words queue ∷ number n ∷ number receipt ∷ number hold ∷ maybe_words text ∷ []
+fields_of (Update queue n receipt hold text) =
+    words queue ∷ number n ∷ number receipt ∷ number hold ∷ maybe_words text ∷ []
 fields_of (Delete queue n receipt) = words queue ∷ number n ∷ number receipt ∷ []
 fields_of (Clear queue) = words queue ∷ []
 fields_of (PutBlob container blob text) = words container ∷ words blob ∷ words text ∷ []
@@ -119,8 +120,8 @@ fields_of (Unnoted function container) = words function ∷ words container ∷ 
 
 abbrev pub all_kinds : List Kind
 all_kinds =
-    make_queue ∷ put ∷ take ∷ update ∷ delete ∷ clear ∷ put_blob ∷ delete_blob ∷ note ∷ acquire ∷ renew_lease ∷ release_lease
-    ∷ configure ∷ session ∷ arm ∷ tick ∷ fetch ∷ begin ∷ finish ∷ renewals ∷ peek ∷ get_blob ∷ locate ∷ unnoted ∷ []
+    make_queue ∷ put ∷ take ∷ update ∷ delete ∷ clear ∷ put_blob ∷ delete_blob ∷ note ∷ acquire ∷ renew_lease
+    ∷ release_lease ∷ configure ∷ session ∷ arm ∷ tick ∷ fetch ∷ begin ∷ finish ∷ renewals ∷ peek ∷ get_blob ∷ locate ∷ unnoted ∷ []
 
 -- the kind of this number
 unfoldable pub kind_at : ℕ → Option Kind

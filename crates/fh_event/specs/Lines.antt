@@ -65,7 +65,8 @@ rule_line rule = codes "no" ++ spaced (rule_number rule) ++ codes " " ++ rule_na
 -- number, receipt, count and text of a message that is held now
 abbrev pub taken_item : Item → List ℕ
 taken_item item =
-    spaced item.number ++ codes ":" ++ decimal item.receipt ++ codes ":" ++ decimal item.count ++ codes ":" ++ escaped item.text
+    spaced item.number ++ codes ":" ++ decimal item.receipt ++ codes ":" ++ decimal item.count ++ codes ":"
+    ++ escaped item.text
 
 -- number, count and text of a message that is read
 abbrev pub peeked_item : Item → List ℕ

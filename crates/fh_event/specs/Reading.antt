@@ -18,8 +18,8 @@ use Rattle.fh_event.specs.declared.outcome.Output.{Output}
 use Rattle.fh_event.specs.Fields.{longest_list}
 use Rattle.fh_event.specs.Tables.{Taking}
 use Rattle.fh_event.specs.Masks.{is_mask, schedule_ranges}
-use Rattle.fh_event.specs.Settings.{Form, form_at, PlainType, number_type, words_type, masks_type, flag_type, HeldPlain, types_of_form, made_settings}
-use Rattle.fh_event.specs.Outcomes.{OutputForm, output_form_at, types_of_output_form, made_output}
+use Rattle.fh_event.specs.Settings.{form_at, PlainType, number_type, words_type, masks_type, flag_type, HeldPlain, types_of_form, made_settings}
+use Rattle.fh_event.specs.Outcomes.{output_form_at, types_of_output_form, made_output}
 use Rattle.fh_event.specs.Kinds.{Kind, kind_at, types_of, Held, made}
 
 unfoldable pub byte_at : ℕ → List ℕ → Result (ℕ × List ℕ) EventFault
@@ -64,16 +64,19 @@ masks_at (range ∷ ranges) field bytes = do
   masks ← masks_at ranges field mask.1
   Ok (mask.0 ∷ masks.0, masks.1)
 
-abbrev pub behind_flag : {X : Type 0} → (List ℕ → Result (X × List ℕ) EventFault) → Bool → List ℕ → Result (Option X × List ℕ) EventFault
+abbrev pub behind_flag : {X : Type 0} → (List ℕ → Result (X × List ℕ) EventFault) → Bool → List ℕ
+    → Result (Option X × List ℕ) EventFault
 behind_flag reader false rest = Ok (None, rest)
 behind_flag reader true rest = reader rest >>= λ x. Ok (Some x.0, x.1)
 
 -- a byte 0, or a byte 1 and what the reader reads
-unfoldable pub maybe_at : {X : Type 0} → (List ℕ → Result (X × List ℕ) EventFault) → ℕ → List ℕ → Result (Option X × List ℕ) EventFault
+unfoldable pub maybe_at : {X : Type 0} → (List ℕ → Result (X × List ℕ) EventFault) → ℕ → List ℕ
+    → Result (Option X × List ℕ) EventFault
 maybe_at reader field bytes = flag_at field bytes >>= λ flag. behind_flag reader flag.0 flag.1
 
 -- the fields of these types in order: the number of each is that of the one before with a step
-abbrev pub taken_at : {T X : Type 0} {Held : T → Type 0} → ((type : T) → ℕ → List ℕ → Result (Held type × List ℕ) EventFault)
+abbrev pub taken_at : {T X : Type 0} {Held : T → Type 0}
+    → ((type : T) → ℕ → List ℕ → Result (Held type × List ℕ) EventFault)
     → ℕ → (types : List T) → Taking Held X types → ℕ → List ℕ → Result (X × List ℕ) EventFault
 taken_at held step [] value field bytes = Ok (value, bytes)
 taken_at held step (type ∷ types) taking field bytes =
@@ -93,7 +96,8 @@ formed types made field (Some form) bytes = taken_at plain_at 0 (types form) (ma
 
 -- the byte of a form, and the fields of that form
 unfoldable pub settings_at : ℕ → List ℕ → Result (FunctionSettings × List ℕ) EventFault
-settings_at field bytes = byte_at field bytes >>= λ form. formed types_of_form made_settings field (form_at form.0) form.1
+settings_at field bytes =
+    byte_at field bytes >>= λ form. formed types_of_form made_settings field (form_at form.0) form.1
 
 -- the byte of a form, and the fields of that form
 unfoldable pub output_at : ℕ → List ℕ → Result (Output × List ℕ) EventFault

@@ -15,7 +15,8 @@ use crate::tables::{
 /// `encode` wrote is what `decode` reads, and no second spelling is read.
 #[tactic(auto, using(crate::proofs::EntryLaws::is_one_entry, crate::proofs::EntryLaws::read_again))]
 pub fn entries_have_one_reading()
-    ensures one { (bytes : List ℕ) (m n : ℕ) (c d : Command) → IsEntry bytes m c → IsEntry bytes n d → (m ≡ n) × (c ≡ d) }
+    ensures one { (bytes : List ℕ) (m n : ℕ) (c d : Command) → IsEntry bytes m c → IsEntry bytes n d
+        → (m ≡ n) × (c ≡ d) }
     ensures read { (m : ℕ) (c : Command) → IsEntry (entry m c) m c → entry_read (entry m c) ≡ Ok (m, c) }
 {}
 
@@ -32,7 +33,8 @@ pub fn tables_are_those_of_the_grammar()
     ensures note { (NOTE.kind ≡ kind_number note) × (NOTE.fields ≡ types_of note) }
     ensures acquire { (ACQUIRE.kind ≡ kind_number acquire) × (ACQUIRE.fields ≡ types_of acquire) }
     ensures renew_lease { (RENEW_LEASE.kind ≡ kind_number renew_lease) × (RENEW_LEASE.fields ≡ types_of renew_lease) }
-    ensures release_lease { (RELEASE_LEASE.kind ≡ kind_number release_lease) × (RELEASE_LEASE.fields ≡ types_of release_lease) }
+    ensures release_lease { (RELEASE_LEASE.kind ≡ kind_number release_lease)
+        × (RELEASE_LEASE.fields ≡ types_of release_lease) }
     ensures configure { (CONFIGURE.kind ≡ kind_number configure) × (CONFIGURE.fields ≡ types_of configure) }
     ensures session { (SESSION.kind ≡ kind_number session) × (SESSION.fields ≡ types_of session) }
     ensures arm { (ARM.kind ≡ kind_number arm) × (ARM.fields ≡ types_of arm) }

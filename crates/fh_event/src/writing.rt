@@ -21,7 +21,8 @@ use crate::tables::{
 use fh_base::{Moment, NoMemory, Text};
 
 /// Appends the entry of the moment and the command, if no text has more than 16,777,216 bytes, each mask of a
-/// schedule has numbers of its field, and an outcome has at most 65,536 outputs. After want of memory nothing is appended.
+/// schedule has numbers of its field, and an outcome has at most 65,536 outputs. After want of memory nothing is
+/// appended.
 #[tactic(auto, using(crate::proofs::Extending::taken_back))]
 pub fn encode(command: &Command, moment: Moment, into: &mut Vec<u8>) -> Result<(), NoMemory>
     requires texts { HasShortTexts command.now }

@@ -1,10 +1,10 @@
 -- The row of a number, as rows change, and what is true of each row.
-use Rattle.std.proofs.Common.{◌≡◌, ℕ, zero, suc, ◌≤◌, ◌<◌, Bool, true, false, List, [], ◌∷◌, ◌++◌, take, Option, Some, None, refl, ◌∙◌, ap, arith}
-use Rattle.std.specs.Prelude.{◌==◌, nat_lt, if◌then◌else◌, filter, is_some, option_map}
+use Rattle.std.proofs.Common.{◌≡◌, ◌≢◌, ℕ, zero, suc, ◌+◌, ◌≤◌, ◌<◌, Bool, true, false, List, [], ◌∷◌, ◌++◌, take, Option, Some, None, refl, sym, ◌∙◌, ap, subst, arith}
+use Rattle.std.specs.Prelude.{◌==◌, ◌&&◌, nat_lt, if◌then◌else◌, filter, is_some, option_map}
 use Rattle.std.specs.List.{list_all, list_any}
 use Rattle.std.proofs.lemmas.Bool.Decides.{nat_tests}
 use Rattle.fh_queues.specs.declared.row.Message.{Message}
-use Rattle.fh_queues.specs.Rows.{with_change, row_of}
+use Rattle.fh_queues.specs.Rows.{is_live, with_change, row_of, live_row}
 use Rattle.fh_queues.specs.Order.{are_rising}
 
 pub row_of-number : (n : ℕ) (rows : List Message) (row : Message) → row_of n rows ≡ Some row → row.number ≡ n
@@ -106,3 +106,40 @@ are_rising-with_change low number change keeps (row ∷ rows) rising = grind (ar
 pub all_positive : (low : ℕ) (rows : List Message) → are_rising low rows ≡ true → list_all (λ row. nat_lt 0 row.number) rows ≡ true
 all_positive low [] rising = refl
 all_positive low (row ∷ rows) rising = grind (arith, nat_tests, all_positive row.number rows)
+
+-- rows above a number have none of it that is live
+live_row-above : (n m low : ℕ) (rows : List Message) → n ≤ low → are_rising low rows ≡ true → live_row n m rows ≡ None
+live_row-above n m low [] less rising = refl
+live_row-above n m low (row ∷ rows) less rising = grind (arith, nat_tests, live_row-above n m row.number rows)
+
+pub live_row-is : (n m low : ℕ) (rows : List Message) → are_rising low rows ≡ true → live_row n m rows ≡ keep_if (is_live m) (row_of n rows)
+live_row-is n m low [] rising = refl
+live_row-is n m low (row ∷ rows) rising = by_tests (row.number == n) (is_live m row) refl refl (live_row-is n m row.number rows later)
+  where
+    later : are_rising row.number rows ≡ true
+    later = grind (arith, nat_tests)
+
+    by_tests : (same alive : Bool) → (row.number == n) ≡ same → is_live m row ≡ alive
+        → live_row n m rows ≡ keep_if (is_live m) (row_of n rows)
+        → live_row n m (row ∷ rows) ≡ keep_if (is_live m) (row_of n (row ∷ rows))
+    by_tests true true is its more = grind (arith, nat_tests)
+    by_tests true false is its more =
+        let none : live_row n m rows ≡ None = live_row-above n m row.number rows (grind (arith, nat_tests)) later in
+        grind (arith, nat_tests)
+    by_tests false alive is its more = grind (arith, nat_tests)
+
+-- a live row is the row of its number
+pub live_row-found : (n m : ℕ) (rows : List Message) (row : Message) → are_rising 0 rows ≡ true → live_row n m rows ≡ Some row
+    → (row_of n rows ≡ Some row) × (is_live m row ≡ true)
+live_row-found n m rows row rising found = by_found (row_of n rows) (sym (live_row-is n m 0 rows rising) ∙ found)
+  where
+    by_found : (there : Option Message) → keep_if (is_live m) there ≡ Some row → (there ≡ Some row) × (is_live m row ≡ true)
+    by_found None is = absurd (cc)
+    by_found (Some r) is = by_test (is_live m r) refl is
+      where
+        by_test : (alive : Bool) → is_live m r ≡ alive → (if alive then Some r else None) ≡ Some row
+            → (Some r ≡ Some row) × (is_live m row ≡ true)
+        by_test true its is =
+            let same : r ≡ row = cc in
+            (is, subst (λ (x : Message). is_live m x ≡ true) same its)
+        by_test false its is = absurd (cc)

@@ -1,12 +1,14 @@
 -- What every layer above may cite: one lemma for each law of the queues.
-use Rattle.std.proofs.Common.{◌≡◌, ℕ, true, refl, sym, ◌∙◌, ap, subst, arith, length-take}
+use Rattle.std.proofs.Common.{◌≡◌, ℕ, ◌∷◌, [], true, false, List, Option, Some, None, map, refl, sym, ◌∙◌, ap, subst, arith, length-take}
+use Rattle.fh_event.specs.declared.reply.Item.{Item}
 use Rattle.fh_event.specs.Judging.{Makes}
+use Rattle.fh_queues.specs.declared.row.Message.{Message}
 use Rattle.fh_queues.specs.declared.done.QueueDone.{QueueDone}
 use Rattle.fh_queues.specs.Asks.{Ask}
-use Rattle.fh_queues.specs.Rows.{visible}
+use Rattle.fh_queues.specs.Rows.{is_live, visible}
 use Rattle.fh_queues.specs.Part.{QueuePart}
 use Rattle.fh_queues.specs.Outcome.{outcome}
-use Rattle.fh_queues.specs.Seen.{seen}
+use Rattle.fh_queues.specs.Seen.{Stands, seen}
 use Rattle.fh_queues.specs.Whole.{IsWhole}
 use Rattle.fh_queues.specs.Laws.{OfEachAsk, GoesOnAsAnswered, KeepsUntouched, RaisesReceipts, TakesVisible, HasShortTexts, MovesLittle, GivesNumbersInTurn, GivesReceiptsInTurn, answers, AnswersTheAsk, ListsFew, TakesFew}
 use Rattle.fh_queues.specs.Goings.{goes_on}
@@ -30,14 +32,14 @@ pub keeps_untouched : OfEachAsk KeepsUntouched
 keeps_untouched part ask m after answer h is row stands alive untouched =
     let way = by_ways _ part m (stays part m h) after answer ask is in
     goes_as_answered part ask m after answer h is row.number
-    ∙ ap (goes_on m ask answer row.number) stands
+    ∙ ap (goes_on part m ask answer row.number) stands
     ∙ untouched_stands part m h ask answer row way.holds (row_seen row.number part row stands) alive untouched
 
 pub raises_receipts : OfEachAsk RaisesReceipts
 raises_receipts part ask m after answer h is n before later stands then =
     let way = by_ways _ part m (raises part m h) after answer ask is in
     rises_by part m h ask answer n before later way.holds (row_seen n part before stands)
-    (sym (goes_as_answered part ask m after answer h is n ∙ ap (goes_on m ask answer n) stands) ∙ then)
+    (sym (goes_as_answered part ask m after answer h is n ∙ ap (goes_on part m ask answer n) stands) ∙ then)
 
 take_ways : (part : QueuePart) (m : ℕ) → IsWhole part → Ways (λ ask acts answer. (after : QueuePart) → TakesVisible part m ask after answer) part m
 take_ways part m h = record {
@@ -47,6 +49,10 @@ take_ways part m h = record {
   updates = λ queue number receipt seconds text short named after n. refl;
   deletes = λ queue number receipt named after n. refl;
   clears = λ queue after n. refl;
+  releases = λ message delay held after n. refl;
+  renews = λ messages seconds held after n. refl;
+  completes = λ invocation message outputs job short after n. refl;
+  poisons = λ message queue held after n. refl;
   sweeps = λ after n. refl;
 }
 
@@ -61,6 +67,10 @@ short_ways part m = record {
   updates = λ queue number receipt seconds text short named after. short;
   deletes = λ queue number receipt named after. tt;
   clears = λ queue after. tt;
+  releases = λ message delay held after. tt;
+  renews = λ messages seconds held after. tt;
+  completes = λ invocation message outputs job short after. short;
+  poisons = λ message queue held after. tt;
   sweeps = λ after. tt;
 }
 
@@ -91,6 +101,10 @@ answer_ways part m = record {
   updates = λ queue number receipt seconds text short named. refl;
   deletes = λ queue number receipt named. refl;
   clears = λ queue. refl;
+  releases = λ message delay held. refl;
+  renews = λ messages seconds held. refl;
+  completes = λ invocation message outputs job short. refl;
+  poisons = λ message queue held. refl;
   sweeps = refl;
 }
 
@@ -107,6 +121,10 @@ few_ways part m = record {
   updates = λ queue number receipt seconds text short named. tt;
   deletes = λ queue number receipt named. tt;
   clears = λ queue. tt;
+  releases = λ message delay held. tt;
+  renews = λ messages seconds held. tt;
+  completes = λ invocation message outputs job short. tt;
+  poisons = λ message queue held. tt;
   sweeps = tt;
 }
 

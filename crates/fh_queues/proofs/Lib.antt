@@ -1,4 +1,6 @@
 pub mod Naming
+pub mod Broken
+pub mod Sending
 pub mod Laning
 pub mod Changes
 pub mod Filters

@@ -1,36 +1,18 @@
--- The row of a number, where it is live or in a queue, and the end of a number, by its slot.
-use Rattle.std.proofs.Common.{◌≡◌, ℕ, zero, suc, ◌+◌, ◌-◌, ◌≤◌, ◌<◌, Bool, true, false, List, [], ◌∷◌, length, Option, Some, None, refl, ap, ◌∙◌, inl, inr, arith}
-use Rattle.std.specs.Prelude.{◌==◌, ◌&&◌, slice_index_or, ◌⊎◌}
+-- The row of a number in a queue, and the end of a number, by its slot.
+use Rattle.std.proofs.Common.{◌≡◌, ℕ, zero, suc, ◌+◌, ◌-◌, ◌≤◌, ◌<◌, Bool, true, false, List, [], ◌∷◌, length, Option, Some, None, refl, sym, ap, ◌∙◌, inl, inr, arith}
+use Rattle.std.specs.Prelude.{◌==◌, ◌&&◌, if◌then◌else◌, slice_index_or, ◌⊎◌}
 use Rattle.std.proofs.lemmas.Bool.Decides.{nat_tests}
 use Rattle.fh_queues.specs.declared.row.Message.{Message}
 use Rattle.fh_queues.specs.declared.done.Ending.{Ending}
 use Rattle.fh_queues.specs.declared.slot.Slot.{Slot}
 use Rattle.fh_queues.specs.declared.slot.Slot.TheVariants.{Row, Ended}
-use Rattle.fh_queues.specs.Rows.{is_of, is_live, row_of, live_row, row_in}
+use Rattle.fh_queues.specs.Rows.{is_of, is_live, row_of, row_in}
 use Rattle.fh_queues.specs.Order.{are_rising}
 use Rattle.fh_queues.specs.Part.{end_of}
 use Rattle.fh_queues.specs.Index.{ends_of, slot_at}
 use Rattle.fh_queues.proofs.Finding.{keep_if}
 use Rattle.fh_queues.proofs.Ends.{end_of-past}
 use Rattle.fh_queues.proofs.Guards.{row_in-above}
-
-live_row-above : (n m low : ℕ) (rows : List Message) → n ≤ low → are_rising low rows ≡ true → live_row n m rows ≡ None
-live_row-above n m low [] less rising = refl
-live_row-above n m low (row ∷ rows) less rising = grind (arith, nat_tests, live_row-above n m row.number rows)
-
-pub live_row-is : (n m low : ℕ) (rows : List Message) → are_rising low rows ≡ true → live_row n m rows ≡ keep_if (is_live m) (row_of n rows)
-live_row-is n m low [] rising = refl
-live_row-is n m low (row ∷ rows) rising = by_tests (row.number == n) (is_live m row) refl refl (live_row-is n m row.number rows later)
-  where
-    later : are_rising row.number rows ≡ true
-    later = grind (arith, nat_tests)
-
-    by_tests : (same alive : Bool) → (row.number == n) ≡ same → is_live m row ≡ alive → live_row n m rows ≡ keep_if (is_live m) (row_of n rows) → live_row n m (row ∷ rows) ≡ keep_if (is_live m) (row_of n (row ∷ rows))
-    by_tests true true is its more = grind (arith, nat_tests)
-    by_tests true false is its more =
-        let none : live_row n m rows ≡ None = live_row-above n m row.number rows (grind (arith, nat_tests)) later in
-        grind (arith, nat_tests)
-    by_tests false alive is its more = grind (arith, nat_tests)
 
 abbrev pub live_within : List ℕ → ℕ → Message → Bool
 live_within queue m row = is_of queue row && is_live m row

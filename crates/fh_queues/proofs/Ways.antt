@@ -1,25 +1,30 @@
 -- The ways in which an ask changes the queues: what holds of each holds of every outcome.
-use Rattle.std.proofs.Common.{◌≡◌, ℕ, ◌≤◌, Bool, true, false, List, [], ◌∷◌, length, take, map, Option, Some, None, refl, subst, arith}
-use Rattle.std.specs.Prelude.{◌==◌, ◌&&◌, nat_le, nat_lt, IfSome, if◌then◌else◌}
+use Rattle.std.proofs.Common.{◌≡◌, ℕ, ◌≤◌, Bool, true, false, List, [], ◌∷◌, ◌++◌, length, take, map, Option, Some, None, refl, sym, subst, arith}
+use Rattle.std.specs.Prelude.{⊤, ◌==◌, ◌&&◌, nat_le, nat_lt, IfSome, if◌then◌else◌}
 use Rattle.std.proofs.lemmas.Bool.Decides.{nat_tests}
 use Rattle.fh_base.specs.declared.rule.Rule.{Rule}
 use Rattle.fh_base.specs.declared.rule.Rule.TheVariants.{OutOfRange, PopReceiptMismatch, TooLarge}
+use Rattle.fh_event.specs.declared.outcome.Output.{Output}
+use Rattle.fh_event.specs.declared.outcome.Output.TheVariants as outputs
 use Rattle.fh_event.specs.declared.reply.Item.{Item}
 use Rattle.fh_event.specs.Judging.{Quiets, Makes, unless_refused}
+use Rattle.fh_queues.specs.declared.held.HeldMessage.{HeldMessage}
 use Rattle.fh_queues.specs.declared.row.Message.{Message}
-use Rattle.fh_queues.specs.declared.row.About.{About}
+use Rattle.fh_event.specs.declared.begun.About.{About}
 use Rattle.fh_queues.specs.declared.done.QueueDone.{QueueDone}
 use Rattle.fh_queues.specs.declared.done.QueueDone.TheVariants as done
 use Rattle.fh_queues.specs.declared.done.Ending.TheVariants as endings
 use Rattle.fh_queues.specs.declared.act.Which.TheVariants.{InQueue, Numbered}
 use Rattle.fh_queues.specs.declared.act.Act.{Act}
 use Rattle.fh_queues.specs.declared.act.Act.TheVariants.{AddQueue, AddRow, ChangeRow, EndRows}
-use Rattle.fh_queues.specs.Asks.{Ask, Make, Put, Take, Update, Delete, Clear, Sweep}
-use Rattle.fh_queues.specs.Rows.{live, visible, row_in}
+use Rattle.fh_queues.specs.Asks.{Ask, Make, Put, Take, Update, Delete, Clear, Release, Renew, Complete, Poison, Sweep}
+use Rattle.fh_queues.specs.Rows.{live, visible, row_in, live_row}
 use Rattle.fh_queues.specs.Part.{QueuePart, has_queue}
 use Rattle.fh_queues.specs.Acts.{by_acts, sweep}
-use Rattle.fh_queues.specs.Rules.{first_broken, text_rule, ttl_rule, delay_rule, put_rule, take_rule, queue_rule, receipt_rule, message_rule, update_rule, new_text_rule, range_rule}
-use Rattle.fh_queues.specs.Outcome.{after, new_message, taken_items, hold, renewal, rows_of, Acting, holding, clearing, acting, made_by, outcome}
+use Rattle.fh_queues.specs.Rules.{first_broken, text_rule, ttl_rule, delay_rule, put_rule, take_rule, queue_rule, receipt_rule, message_rule, update_rule, new_text_rule, range_rule, held_rule, release_rule, renew_rule, name_rule, output_rule, outputs_rule, job_rule, room_rule, complete_rule}
+use Rattle.fh_queues.specs.Jobs.{release, holding_on, renewed, sends, count_sent, end_job, move, text_of}
+use Rattle.fh_queues.specs.Laws.{AreShort}
+use Rattle.fh_queues.specs.Outcome.{after, new_message, taken_items, hold, renewal, rows_of, Acting, making, holding, clearing, acting, made_by, outcome}
 
 -- the messages that a take holds, and how they are listed
 abbrev pub chosen : QueuePart → ℕ → List ℕ → ℕ → List Message
@@ -34,6 +39,20 @@ pub record IsNamed (part : QueuePart) (m : ℕ) (queue : List ℕ) (number recei
   pub stands : row_in queue number m part.rows ≡ Some row
   pub newest : row.receipt ≡ receipt
 
+-- the message is live, and has its receipt
+pub record IsHeld (part : QueuePart) (m : ℕ) (message : HeldMessage) : Type 0 where
+  pub row : Message
+  pub stands : live_row message.number m part.rows ≡ Some row
+  pub newest : row.receipt ≡ message.receipt
+
+abbrev pub AreHeld : QueuePart → ℕ → List HeldMessage → Type 0
+AreHeld part m [] = ⊤
+AreHeld part m (message ∷ messages) = IsHeld part m message × AreHeld part m messages
+
+abbrev pub IsJob : QueuePart → ℕ → Option HeldMessage → Type 0
+IsJob part m None = ⊤
+IsJob part m (Some message) = IsHeld part m message
+
 pub record Ways (P : Ask → List Act → QueueDone → Type 0) (part : QueuePart) (m : ℕ) : Type 0 where
   pub makes : (queue : List ℕ) → P (Make queue) (AddQueue queue ∷ []) done.Made
   pub puts : (queue : List ℕ) (delay : ℕ) (ttl : Option ℕ) (text : List ℕ) (about : Option About) → length text ≤ 65536 → P (Put queue delay ttl text about) (AddRow (new_message m queue delay ttl text about) ∷ []) (done.Stored part.next_number part.next_receipt)
@@ -41,6 +60,22 @@ pub record Ways (P : Ask → List Act → QueueDone → Type 0) (part : QueuePar
   pub updates : (queue : List ℕ) (number receipt seconds : ℕ) (text : Option (List ℕ)) → IfSome text (λ t. length t ≤ 65536) → IsNamed part m queue number receipt → P (Update queue number receipt seconds text) (ChangeRow number (renewal (after m seconds) text) ∷ []) (done.Updated part.next_receipt)
   pub deletes : (queue : List ℕ) (number receipt : ℕ) → IsNamed part m queue number receipt → P (Delete queue number receipt) (EndRows (Numbered number) endings.Deleted ∷ []) done.Deleted
   pub clears : (queue : List ℕ) → P (Clear queue) (EndRows (InQueue queue) endings.Deleted ∷ []) (done.Cleared (length (rows_of queue (live m part.rows))))
+  pub releases :
+      (message : HeldMessage) (delay : ℕ) → IsHeld part m message
+      → P (Release message delay) (release (after m delay) message ∷ []) (done.Released part.next_receipt (after m delay))
+  pub renews :
+      (messages : List HeldMessage) (seconds : ℕ) → AreHeld part m messages
+      → P (Renew messages seconds) (map (holding_on (after m seconds)) messages)
+      (done.Renewed (renewed part.next_receipt messages))
+  pub completes :
+      (invocation : ℕ) (message : Option HeldMessage) (outputs : List Output) → IsJob part m message → AreShort outputs
+      → P (Complete invocation message outputs) (end_job invocation message ++ sends m outputs)
+      (done.Completed part.next_number part.next_receipt (count_sent outputs))
+  pub poisons :
+      (message : HeldMessage) (queue : List ℕ) → IsHeld part m message
+      → P (Poison message queue)
+      (move part.next_number m message queue (text_of (live_row message.number m part.rows)))
+      (done.Poisoned part.next_number part.next_receipt)
   pub sweeps : P Sweep [] done.Swept
 
 -- the acts by which an ask made this
@@ -97,6 +132,38 @@ few : (part : QueuePart) (queue : List ℕ) (count seconds : ℕ) → take_rule 
 few part queue count seconds is =
     in_range count 1 32 (unbroken-head (range_rule count 1 32) (range_rule seconds 1 604800 ∷ queue_rule part queue ∷ []) is).0
 
+held_by_receipt : (found : Option Message) (part : QueuePart) (m : ℕ) (message : HeldMessage)
+    → live_row message.number m part.rows ≡ found → receipt_rule found message.receipt ≡ None → IsHeld part m message
+held_by_receipt None part m message found is = absurd (cc)
+held_by_receipt (Some row) part m message found is = by_test (row.receipt == message.receipt) refl is
+  where
+    by_test : (same : Bool) → (row.receipt == message.receipt) ≡ same
+        → (if same then None else Some (PopReceiptMismatch row.receipt)) ≡ None → IsHeld part m message
+    by_test true test is = record { row = row; stands = found; newest = grind (arith, nat_tests) }
+    by_test false test is = absurd (cc)
+
+held : (part : QueuePart) (m : ℕ) (message : HeldMessage) → held_rule part m message ≡ None → IsHeld part m message
+held part m message is = held_by_receipt (live_row message.number m part.rows) part m message refl is
+
+all_held : (part : QueuePart) (m : ℕ) (messages : List HeldMessage)
+    → first_broken (map (held_rule part m) messages) ≡ None → AreHeld part m messages
+all_held part m [] is = tt
+all_held part m (message ∷ messages) is =
+    let both = unbroken-head (held_rule part m message) (map (held_rule part m) messages) is in
+    (held part m message both.0, all_held part m messages both.1)
+
+job : (part : QueuePart) (m : ℕ) (message : Option HeldMessage) → job_rule part m message ≡ None → IsJob part m message
+job part m None is = tt
+job part m (Some message) is = held part m message is
+
+all_short : (outputs : List Output) → outputs_rule outputs ≡ None → AreShort outputs
+all_short [] is = tt
+all_short (outputs.Queue queue text ∷ more) is =
+    let both = unbroken-head (output_rule (outputs.Queue queue text)) (map output_rule more) is in
+    let own = unbroken-head (name_rule queue) (text_rule text ∷ []) both.0 in
+    (short_text text (unbroken-head (text_rule text) [] own.1).0, all_short more both.1)
+all_short (outputs.Blob container blob text ∷ more) is = all_short more is
+
 module _ (P : Ask → List Act → QueueDone → Type 0) (part : QueuePart) (m : ℕ) (ways : Ways P part m) (after_ask : QueuePart) (answer : QueueDone) where
   -- no rule refused it
   accepted : (rule : Option Rule) (acts : Acting) → made_by part m (unless_refused rule acts) ≡ Makes after_ask answer → (rule ≡ None) × (made_by part m acts ≡ Makes after_ask answer)
@@ -142,6 +209,24 @@ module _ (P : Ask → List Act → QueueDone → Type 0) (part : QueuePart) (m :
       way (Delete queue number receipt) _ _ (ways.deletes queue number receipt (named part m queue number receipt fits.0)) fits.1
   by_acting (Clear queue) is =
       by_clearing queue (rows_of queue (live m part.rows)) refl (accepted (queue_rule part queue) _ is).1
+  by_acting (Release message delay) is =
+      let fits = accepted (release_rule part m message delay) _ is in
+      let held_it = unbroken-head (held_rule part m message) (range_rule delay 0 604800 ∷ []) fits.0 in
+      way (Release message delay) _ _ (ways.releases message delay (held part m message held_it.0)) fits.1
+  by_acting (Renew messages seconds) is =
+      let fits = accepted (renew_rule part m messages seconds) _ is in
+      let held_all = unbroken-head (first_broken (map (held_rule part m) messages)) (range_rule seconds 1 604800 ∷ []) fits.0 in
+      way (Renew messages seconds) _ _ (ways.renews messages seconds (all_held part m messages held_all.0)) fits.1
+  by_acting (Complete invocation message outputs) is =
+      let fits = accepted (complete_rule part m message outputs) _ is in
+      let room = room_rule part m message outputs in
+      let first = unbroken-head (job_rule part m message) (outputs_rule outputs ∷ room ∷ []) fits.0 in
+      let second = unbroken-head (outputs_rule outputs) (room ∷ []) first.1 in
+      way (Complete invocation message outputs) _ _
+      (ways.completes invocation message outputs (job part m message first.0) (all_short outputs second.0)) fits.1
+  by_acting (Poison message queue) is =
+      let fits = accepted (held_rule part m message) _ is in
+      way (Poison message queue) _ _ (ways.poisons message queue (held part m message fits.0)) fits.1
   by_acting Sweep is = way Sweep _ _ ways.sweeps is
 
   -- so it holds of each outcome

@@ -1,15 +1,18 @@
 -- Laws of each ask that changes something.
-use Rattle.std.specs.Prelude.{◌≡◌, ℕ, ◌+◌, ◌<◌, ◌≤◌, nat_le, nat_lt, ◌&&◌, ◌↔◌, if◌then◌else◌, Bool, true, false, List, length, Some, None, Ok, IfSome, ⊤}
+use Rattle.std.specs.Prelude.{◌≡◌, ℕ, ◌+◌, ◌<◌, ◌≤◌, nat_le, nat_lt, ◌&&◌, ◌↔◌, if◌then◌else◌, Bool, true, false, List, [], ◌∷◌, length, Some, None, Ok, IfSome, ⊤}
+use Rattle.fh_event.specs.declared.outcome.Output.{Output}
+use Rattle.fh_event.specs.declared.outcome.Output.TheVariants as outputs
 use Rattle.fh_event.specs.declared.reply.Item.{Item}
 use Rattle.fh_event.specs.declared.reply.Place.TheVariants as place
 use Rattle.fh_event.specs.Judging.{Makes}
 use Rattle.fh_queues.specs.declared.row.Message.{Message}
 use Rattle.fh_queues.specs.declared.done.QueueDone.{QueueDone}
 use Rattle.fh_queues.specs.declared.done.QueueDone.TheVariants as done
-use Rattle.fh_queues.specs.Asks.{Ask, Make, Put, Take, Update, Delete, Clear, Sweep}
+use Rattle.fh_queues.specs.Asks.{Ask, Make, Put, Take, Update, Delete, Clear, Release, Renew, Complete, Poison, Sweep}
 use Rattle.fh_queues.specs.Rows.{is_live, is_visible, row_of}
 use Rattle.fh_queues.specs.Order.{are_listed}
 use Rattle.fh_queues.specs.Part.{QueuePart}
+use Rattle.fh_queues.specs.Jobs.{count_sent}
 use Rattle.fh_queues.specs.Outcome.{outcome, peeked}
 use Rattle.fh_queues.specs.Seen.{Stands, seen}
 use Rattle.fh_queues.specs.Places.{place_of}
@@ -27,16 +30,26 @@ OfEachAsk Holds =
 abbrev pub StaysWhole : QueuePart → ℕ → Ask → QueuePart → QueueDone → Type 0
 StaysWhole part m ask after answer = IsWhole after
 
--- counters only rise, and one number and 32 receipts at most are given
+-- how many numbers and receipts an ask is given at most
+abbrev pub most_numbers : Ask → ℕ
+most_numbers (Complete invocation message outputs) = count_sent outputs
+most_numbers ask = 1
+
+abbrev pub most_receipts : Ask → ℕ
+most_receipts (Renew messages hold) = length messages
+most_receipts (Complete invocation message outputs) = count_sent outputs
+most_receipts ask = 32
+
+-- counters only rise, and by no more than that
 pub record MovesLittle (part : QueuePart) (m : ℕ) (ask : Ask) (after : QueuePart) (answer : QueueDone) : Type 0 where
   pub numbers : part.next_number ≤ after.next_number
   pub receipts : part.next_receipt ≤ after.next_receipt
-  pub number : after.next_number ≤ part.next_number + 1
-  pub receipt : after.next_receipt ≤ part.next_receipt + 32
+  pub number : after.next_number ≤ part.next_number + most_numbers ask
+  pub receipt : after.next_receipt ≤ part.next_receipt + most_receipts ask
 
 -- each message is what the ask and its answer make of it
 abbrev pub GoesOnAsAnswered : QueuePart → ℕ → Ask → QueuePart → QueueDone → Type 0
-GoesOnAsAnswered part m ask after answer = (n : ℕ) → seen n after ≡ goes_on m ask answer n (seen n part)
+GoesOnAsAnswered part m ask after answer = (n : ℕ) → seen n after ≡ goes_on part m ask answer n (seen n part)
 
 -- the numbers that the answer gives are those from the next one before to the next one after
 abbrev pub GivesNumbersInTurn : QueuePart → ℕ → Ask → QueuePart → QueueDone → Type 0
@@ -74,10 +87,17 @@ TakesVisible part m (Take queue count hold) after answer =
     (n : ℕ) (item : Item) → listed_item answer n ≡ Some item → IsTakenFrom part m queue item
 TakesVisible part m ask after answer = (n : ℕ) → listed_item answer n ≡ None
 
+-- no text for a queue is longer than a message
+abbrev pub AreShort : List Output → Type 0
+AreShort [] = ⊤
+AreShort (outputs.Queue queue text ∷ more) = (length text ≤ 65536) × AreShort more
+AreShort (outputs.Blob container blob text ∷ more) = AreShort more
+
 -- no text of the ask is longer than a message
 abbrev pub HasShortTexts : QueuePart → ℕ → Ask → QueuePart → QueueDone → Type 0
 HasShortTexts part m (Put queue delay ttl text about) after answer = length text ≤ 65536
 HasShortTexts part m (Update queue number receipt hold text) after answer = IfSome text (λ t. length t ≤ 65536)
+HasShortTexts part m (Complete invocation message outputs) after answer = AreShort outputs
 HasShortTexts part m ask after answer = ⊤
 
 -- a message has a place at every moment exactly where its number was given
@@ -99,6 +119,10 @@ answers (Take queue count hold) (done.Taken items) = true
 answers (Update queue number receipt hold text) (done.Updated newest) = true
 answers (Delete queue number receipt) done.Deleted = true
 answers (Clear queue) (done.Cleared count) = true
+answers (Release message delay) (done.Released receipt visible_at) = true
+answers (Renew messages hold) (done.Renewed renewed) = true
+answers (Complete invocation message outputs) (done.Completed number receipt count) = true
+answers (Poison message queue) (done.Poisoned copy receipt) = true
 answers Sweep done.Swept = true
 answers ask answer = false
 

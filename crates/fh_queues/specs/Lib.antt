@@ -3,6 +3,7 @@ pub mod Asks
 pub mod Part
 pub mod Order
 pub mod Acts
+pub mod Jobs
 pub mod Rules
 pub mod Outcome
 pub mod Seen

@@ -1,9 +1,11 @@
 -- What each ask makes of the queues at a moment, and what it answers.
-use Rattle.std.specs.Prelude.{ℕ, ◌+◌, ◌*◌, true, if◌then◌else◌, List, [], ◌∷◌, length, take, map, filter, Option, Some, None, Result, Ok, Err}
+use Rattle.std.specs.Prelude.{ℕ, ◌+◌, ◌*◌, true, false, if◌then◌else◌, List, [], ◌∷◌, ◌++◌, length, take, map, filter, Option, Some, None, Result, Ok, Err}
 use Rattle.fh_base.specs.declared.rule.Rule.{Rule}
+use Rattle.fh_event.specs.declared.outcome.Output.{Output}
 use Rattle.fh_event.specs.declared.reply.Item.{Item}
 use Rattle.fh_event.specs.Judging.{Judged, Refuses, Quiets, Makes, unless_refused}
-use Rattle.fh_queues.specs.declared.row.About.{About}
+use Rattle.fh_queues.specs.declared.held.HeldMessage.{HeldMessage}
+use Rattle.fh_event.specs.declared.begun.About.{About}
 use Rattle.fh_queues.specs.declared.row.Message.{Message}
 use Rattle.fh_queues.specs.declared.done.QueueDone.{QueueDone}
 use Rattle.fh_queues.specs.declared.done.QueueDone.TheVariants as done
@@ -13,11 +15,12 @@ use Rattle.fh_queues.specs.declared.act.RowChange.{RowChange}
 use Rattle.fh_queues.specs.declared.act.Which.TheVariants.{InQueue, Numbered}
 use Rattle.fh_queues.specs.declared.act.Act.{Act}
 use Rattle.fh_queues.specs.declared.act.Act.TheVariants.{AddQueue, AddRow, ChangeRow, EndRows}
-use Rattle.fh_queues.specs.Rows.{is_of, visible, live}
-use Rattle.fh_queues.specs.Asks.{Ask, Make, Put, Take, Update, Delete, Clear, Sweep}
+use Rattle.fh_queues.specs.Rows.{is_of, visible, live, live_row}
+use Rattle.fh_queues.specs.Asks.{Ask, Make, Put, Take, Update, Delete, Clear, Release, Renew, Complete, Poison, Sweep}
 use Rattle.fh_queues.specs.Part.{QueuePart, has_queue}
 use Rattle.fh_queues.specs.Acts.{by_acts, sweep}
-use Rattle.fh_queues.specs.Rules.{put_rule, take_rule, peek_rule, queue_rule, message_rule, update_rule, store_rule}
+use Rattle.fh_queues.specs.Jobs.{release, holding_on, renewed, sends, count_sent, end_job, move, text_of}
+use Rattle.fh_queues.specs.Rules.{put_rule, take_rule, peek_rule, queue_rule, message_rule, update_rule, store_rule, held_rule, release_rule, renew_rule, complete_rule}
 
 -- so many seconds after a moment
 abbrev pub after : ℕ → ℕ → ℕ
@@ -101,6 +104,32 @@ clearing queue (row ∷ rows) =
 abbrev pub emptying : QueuePart → ℕ → List ℕ → Acting
 emptying part m queue = unless_refused (queue_rule part queue) (clearing queue (rows_of queue (live m part.rows)))
 
+-- the message is visible again after a delay
+abbrev pub releasing : QueuePart → ℕ → HeldMessage → ℕ → Acting
+releasing part m message delay =
+    unless_refused (release_rule part m message delay)
+    (Makes (release (after m delay) message ∷ []) (done.Released part.next_receipt (after m delay)))
+
+-- the messages are held on, each with a new receipt
+abbrev pub renewing : QueuePart → ℕ → List HeldMessage → ℕ → Acting
+renewing part m messages seconds =
+    unless_refused (renew_rule part m messages seconds)
+    (Makes (map (holding_on (after m seconds)) messages) (done.Renewed (renewed part.next_receipt messages)))
+
+-- the invocation's message is gone, and its outputs to queues are sent
+abbrev pub completing : QueuePart → ℕ → ℕ → Option HeldMessage → List Output → Acting
+completing part m invocation message outputs =
+    unless_refused (complete_rule part m message outputs)
+    (Makes (end_job invocation message ++ sends m outputs)
+    (done.Completed part.next_number part.next_receipt (count_sent outputs)))
+
+-- the message is moved into the queue
+abbrev pub poisoning : QueuePart → ℕ → HeldMessage → List ℕ → Acting
+poisoning part m message queue =
+    unless_refused (held_rule part m message)
+    (Makes (move part.next_number m message queue (text_of (live_row message.number m part.rows)))
+    (done.Poisoned part.next_number part.next_receipt))
+
 unfoldable pub acting : QueuePart → Ask → ℕ → Acting
 acting part (Make queue) m = making part queue
 acting part (Put queue delay ttl text about) m = putting part m queue delay ttl text about
@@ -108,6 +137,10 @@ acting part (Take queue count seconds) m = taking part m queue count seconds
 acting part (Update queue number receipt seconds text) m = updating part m queue number receipt seconds text
 acting part (Delete queue number receipt) m = deleting part m queue number receipt
 acting part (Clear queue) m = emptying part m queue
+acting part (Release message delay) m = releasing part m message delay
+acting part (Renew messages seconds) m = renewing part m messages seconds
+acting part (Complete invocation message outputs) m = completing part m invocation message outputs
+acting part (Poison message queue) m = poisoning part m message queue
 acting part Sweep m = Makes [] done.Swept
 
 -- the part after an ask, and what is answered

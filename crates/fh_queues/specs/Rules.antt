@@ -1,11 +1,16 @@
 -- The rules that refuse what is asked of the queues, in order of their numbers.
-use Rattle.std.specs.Prelude.{ℕ, ◌-◌, ◌==◌, min, nat_le, nat_lt, ◌&&◌, if◌then◌else◌, List, [], ◌∷◌, length, Option, Some, None}
+use Rattle.std.specs.Prelude.{ℕ, ◌+◌, ◌-◌, ◌==◌, min, nat_le, nat_lt, ◌&&◌, if◌then◌else◌, List, [], ◌∷◌, length, map, Option, Some, None}
 use Rattle.fh_base.specs.Limits.{longest_text, seconds_of_week}
+use Rattle.fh_base.specs.Names.{is_queue_name}
 use Rattle.fh_base.specs.declared.rule.Rule.{Rule}
-use Rattle.fh_base.specs.declared.rule.Rule.TheVariants.{TooLarge, OutOfRange, QueueNotFound, MessageNotFound, PopReceiptMismatch, StoreFull}
+use Rattle.fh_base.specs.declared.rule.Rule.TheVariants.{BadName, TooLarge, OutOfRange, QueueNotFound, MessageNotFound, PopReceiptMismatch, StoreFull}
+use Rattle.fh_event.specs.declared.outcome.Output.{Output}
+use Rattle.fh_event.specs.declared.outcome.Output.TheVariants.{Queue, Blob}
+use Rattle.fh_queues.specs.declared.held.HeldMessage.{HeldMessage}
 use Rattle.fh_queues.specs.declared.row.Message.{Message}
-use Rattle.fh_queues.specs.Rows.{live, row_in}
+use Rattle.fh_queues.specs.Rows.{live, live_row, row_in}
 use Rattle.fh_queues.specs.Part.{QueuePart, has_queue}
+use Rattle.fh_queues.specs.Jobs.{count_sent}
 
 -- the first of these rules that is broken
 abbrev pub first_broken : List (Option Rule) → Option Rule
@@ -70,3 +75,45 @@ abbrev pub update_rule : QueuePart → ℕ → List ℕ → ℕ → ℕ → ℕ 
 update_rule part m queue number receipt hold text =
     first_broken
     (new_text_rule text ∷ range_rule hold 0 seconds_of_week ∷ message_rule part m queue number receipt ∷ [])
+
+-- the message is live, and has this receipt
+abbrev pub held_rule : QueuePart → ℕ → HeldMessage → Option Rule
+held_rule part m message = receipt_rule (live_row message.number m part.rows) message.receipt
+
+abbrev pub release_rule : QueuePart → ℕ → HeldMessage → ℕ → Option Rule
+release_rule part m message delay =
+    first_broken (held_rule part m message ∷ range_rule delay 0 seconds_of_week ∷ [])
+
+abbrev pub renew_rule : QueuePart → ℕ → List HeldMessage → ℕ → Option Rule
+renew_rule part m messages hold =
+    first_broken (first_broken (map (held_rule part m) messages) ∷ range_rule hold 1 seconds_of_week ∷ [])
+
+abbrev pub name_rule : List ℕ → Option Rule
+name_rule name = if is_queue_name name then None else Some BadName
+
+-- an output to a queue has a queue's name and a message's text
+abbrev pub output_rule : Output → Option Rule
+output_rule (Queue queue text) = first_broken (name_rule queue ∷ text_rule text ∷ [])
+output_rule (Blob container blob text) = None
+
+abbrev pub outputs_rule : List Output → Option Rule
+outputs_rule outputs = first_broken (map output_rule outputs)
+
+abbrev pub job_rule : QueuePart → ℕ → Option HeldMessage → Option Rule
+job_rule part m None = None
+job_rule part m (Some message) = held_rule part m message
+
+-- how many messages are live beside the one that an invocation has, which is live
+abbrev pub live_beside : QueuePart → ℕ → Option HeldMessage → ℕ
+live_beside part m None = length (live m part.rows)
+live_beside part m (Some message) = length (live m part.rows) - 1
+
+-- at most 100,000 messages are live with those that are sent
+abbrev pub room_rule : QueuePart → ℕ → Option HeldMessage → List Output → Option Rule
+room_rule part m message outputs =
+    if nat_lt 100000 (live_beside part m message + count_sent outputs) then Some (StoreFull (live_beside part m message))
+    else None
+
+abbrev pub complete_rule : QueuePart → ℕ → Option HeldMessage → List Output → Option Rule
+complete_rule part m message outputs =
+    first_broken (job_rule part m message ∷ outputs_rule outputs ∷ room_rule part m message outputs ∷ [])

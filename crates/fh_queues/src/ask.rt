@@ -1,6 +1,7 @@
 // What is asked of the queues.
-use crate::About;
+use crate::HeldMessage;
 use fh_base::{QueueName, Text};
+use fh_event::{About, Outputs};
 
 /// A change that is asked for. Delays, times to live and holds are in seconds.
 #[derive(Clone, Copy)]
@@ -39,6 +40,28 @@ pub enum QueueAsk<'a> {
     },
     /// Removes all messages of a queue.
     Clear {
+        queue: QueueName,
+    },
+    /// Makes a held message visible again, after a delay.
+    Release {
+        message: HeldMessage,
+        delay: u64,
+    },
+    /// Holds messages anew, in the order of the list.
+    Renew {
+        messages: &'a [HeldMessage],
+        hold: u64,
+    },
+    /// Removes the message of an invocation that succeeded, where it has one, and adds a message for each
+    /// output to a queue, in order. Outputs to blobs are passed over: another store puts them.
+    Complete {
+        invocation: u64,
+        message: Option<HeldMessage>,
+        outputs: &'a Outputs,
+    },
+    /// Moves a message into a queue, as a new message of the same text.
+    Poison {
+        message: HeldMessage,
         queue: QueueName,
     },
     /// Only drops the rows that aren't live.

@@ -18,14 +18,15 @@ pub fn parts_stay_whole()
     ensures each { OfEachAsk StaysWhole }
 {}
 
-/// One number and 32 receipts are given at once, at most.
+/// One number and 32 receipts are given at once, at most, but by a completion one of each for each output to a
+/// queue, and by a renewal one receipt for each message.
 pub fn counters_move_little()
     ensures { (part : QueuePart) (ask : Ask) (m : ℕ) (after : QueuePart) (answer : QueueDone)
         → outcome part ask m ≡ Makes after answer → MovesLittle part m ask after answer }
 {}
 
-/// A message whose row isn't live expires, a live one is changed or deleted as the ask and its answer say,
-/// only a put makes one, and an end stays.
+/// A message whose row isn't live expires, a live one is changed or ends as the ask and its answer say, a put, a
+/// completion and a poisoning make messages, and an end stays.
 pub fn messages_go_on_as_answered()
     ensures { OfEachAsk GoesOnAsAnswered }
 {}
@@ -40,8 +41,8 @@ pub fn receipts_are_given_in_turn()
     ensures { OfEachAsk GivesReceiptsInTurn }
 {}
 
-/// No old receipt changes a message: a live one stays as it is, unless a take of its queue lists
-/// it, an update or a delete has its newest receipt, or its queue is cleared.
+/// No old receipt changes a message: a live one stays as it is, unless a take of its queue lists it, its queue
+/// is cleared, or the ask names it with its newest receipt.
 pub fn receipts_guard_messages()
     ensures { OfEachAsk KeepsUntouched }
 {}
@@ -71,8 +72,9 @@ pub fn places_are_known()
     ensures { (part : QueuePart) → IsWhole part → IsKnownByNumber part }
 {}
 
-/// What an ask and its answer tell of a message is what becomes of its row: who is held or removed has a
-/// row, a put's message is new, and a row goes on with its queue and its expiry, and the newest hold.
+/// What an ask and its answer tell of a message is what becomes of its row: who is held, freed, removed or moved
+/// has a live row, a message that comes is new, and a row goes on with its queue and its expiry, and the newest
+/// hold.
 pub fn messages_are_as_told()
     ensures { OfEachAsk TellsOfMessages }
 {}

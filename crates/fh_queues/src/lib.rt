@@ -17,6 +17,9 @@ mod choosing;
 mod done;
 mod ending;
 mod expiry;
+mod held;
+mod job_rules;
+mod jobs;
 mod lane;
 mod lanes;
 mod laws;
@@ -35,6 +38,7 @@ pub use ask::QueueAsk;
 pub use change::{QueueChange, StagedQueues};
 pub use done::{Ending, QueueDone};
 pub use expiry::Expiry;
+pub use held::{HeldMessage, HeldMessages};
 pub use laws::{
     asks_have_their_answers, counters_move_little, messages_are_as_told,
     messages_go_on_as_answered, numbers_are_given_in_turn, parts_stay_whole,
@@ -43,7 +47,7 @@ pub use laws::{
     texts_are_short,
 };
 pub use queues::Queues;
-pub use row::{About, Message, Subject};
+pub use row::{Message, Subject};
 pub use shared_name::SharedName;
 
 #[cfg(test)]

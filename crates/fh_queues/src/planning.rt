@@ -9,12 +9,13 @@ ghost use Rattle.fh_queues.specs.Faults.{IsPlanOf};
 
 use crate::act::{Act, NewMessage, RowChange, Which};
 use crate::choosing::taken_items;
-use crate::{About, Ending, Expiry, Message, QueueAsk, QueueChange, QueueDone, Queues, Subject};
+use crate::{Ending, Expiry, Message, QueueAsk, QueueChange, QueueDone, Queues, Subject};
 use fh_base::{Moment, NoMemory, QueueName, Rule, Text};
-use fh_event::{Item, PlanFault};
+use fh_event::{About, Item, PlanFault};
 use std::alloc::Global;
 
-const MILLISECONDS: u64 = 1000;
+/// Milliseconds of a second.
+pub(crate) const MILLISECONDS: u64 = 1000;
 
 impl Queues {
     /// The change that an ask makes at a moment, or the rule that refuses it. Rules are tested in the
@@ -53,6 +54,14 @@ impl Queues {
                 receipt,
             } => self.plan_delete(alloc, m, queue, *number, *receipt),
             QueueAsk::Clear { queue } => self.plan_clear(alloc, m, queue),
+            QueueAsk::Release { message, delay } => self.plan_release(alloc, m, *message, *delay),
+            QueueAsk::Renew { messages, hold } => self.plan_renew(alloc, m, messages, *hold),
+            QueueAsk::Complete {
+                invocation,
+                message,
+                outputs,
+            } => self.plan_complete(alloc, m, *invocation, *message, outputs.as_slice()),
+            QueueAsk::Poison { message, queue } => self.plan_poison(alloc, m, *message, queue),
             QueueAsk::Sweep => Ok(QueueChange {
                 acts: only_sweep(alloc, m)?,
                 done: QueueDone::Swept,
@@ -72,6 +81,10 @@ impl Queues {
             | QueueAsk::Update { .. }
             | QueueAsk::Delete { .. }
             | QueueAsk::Clear { .. }
+            | QueueAsk::Release { .. }
+            | QueueAsk::Renew { .. }
+            | QueueAsk::Complete { .. }
+            | QueueAsk::Poison { .. }
             | QueueAsk::Sweep => None,
         }
     }
@@ -247,7 +260,7 @@ impl QueueChange {
     }
 }
 
-fn only_sweep(alloc: Global, m: Moment) -> Result<Vec<Act>, NoMemory>
+pub(crate) fn only_sweep(alloc: Global, m: Moment) -> Result<Vec<Act>, NoMemory>
     ensures { IfOk result (λ acts. acts.items ≡ sweep m ∷ []) }
 {
     let mut acts = Vec::new(alloc);
@@ -255,7 +268,7 @@ fn only_sweep(alloc: Global, m: Moment) -> Result<Vec<Act>, NoMemory>
     Ok(acts)
 }
 
-fn one_act(alloc: Global, m: Moment, act: Act) -> Result<Vec<Act>, NoMemory>
+pub(crate) fn one_act(alloc: Global, m: Moment, act: Act) -> Result<Vec<Act>, NoMemory>
     ensures { IfOk result (λ acts. acts.items ≡ sweep m ∷ act ∷ []) }
 {
     let mut acts = only_sweep(alloc, m)?;

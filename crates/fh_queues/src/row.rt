@@ -4,31 +4,10 @@ ghost use Rattle.fh_queues.specs.Rows.{is_live, is_visible, is_of};
 
 use crate::{Expiry, SharedName};
 use fh_base::{Moment, NoMemory, QueueName, Text};
+use fh_event::About;
 use std::alloc::Global;
 use std::marker::Model;
 use std::sync::Arc;
-
-/// The blob that a message is about, as it was at that version.
-#[derive(Drop)]
-pub struct About {
-    pub container: QueueName,
-    pub blob: Text,
-    pub version: u64,
-}
-
-impl About {
-    /// Another one with the same values.
-    pub fn copy(&self, alloc: Global) -> Result<About, NoMemory>
-        ensures { IfOk result (λ about. about ≡ self.now) }
-    {
-        let blob = self.blob.copy(alloc)?;
-        Ok(About {
-            container: self.container,
-            blob,
-            version: self.version,
-        })
-    }
-}
 
 /// The blob that a message is about, or none, which messages share. Contracts see the option.
 #[derive(Drop)]
@@ -39,7 +18,7 @@ pub struct Subject {
 impl Model for Subject {
     ghost use Rattle.std.specs.Prelude.{Option};
     ghost use Rattle.std.specs.Arc.{arc_value};
-    ghost use Rattle.fh_queues.specs.declared.row.About.{About};
+    ghost use Rattle.fh_event.specs.declared.begun.About.{About};
 
     ghost Value = { Option About };
 

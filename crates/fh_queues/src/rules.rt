@@ -7,7 +7,7 @@ use crate::{Message, Queues};
 use fh_base::{LONGEST_TEXT, Moment, QueueName, Rule, SECONDS_OF_WEEK, Text};
 
 /// The most messages that are live.
-const MOST_LIVE: u64 = 100_000;
+pub(crate) const MOST_LIVE: u64 = 100_000;
 
 /// The longest time to live, in seconds.
 const MOST_TTL: u64 = 2_147_483_647;
@@ -119,7 +119,7 @@ impl Queues {
     }
 }
 
-fn range_rule(given: u64, low: u64, high: u64) -> Option<Rule>
+pub(crate) fn range_rule(given: u64, low: u64, high: u64) -> Option<Rule>
     ensures { result ≡ range_rule given low high }
 {
     if low <= given && given <= high {
@@ -128,7 +128,7 @@ fn range_rule(given: u64, low: u64, high: u64) -> Option<Rule>
     Some(Rule::OutOfRange { given, low, high })
 }
 
-fn text_rule(text: &Text) -> Option<Rule>
+pub(crate) fn text_rule(text: &Text) -> Option<Rule>
     ensures { result ≡ text_rule text.now }
 {
     if LONGEST_TEXT < text.len() {
@@ -168,7 +168,7 @@ fn delay_rule(delay: u64, ttl: Option<u64>) -> Option<Rule>
     }
 }
 
-fn receipt_rule(row: Option<&Message>, receipt: u64) -> Option<Rule>
+pub(crate) fn receipt_rule(row: Option<&Message>, receipt: u64) -> Option<Rule>
     ensures { result ≡ receipt_rule (option_copied row.entry) receipt }
 {
     match row {

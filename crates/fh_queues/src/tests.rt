@@ -3,7 +3,7 @@ ghost use Rattle.fh_queues.specs.Edits.{IsIdle, HasNumbers};
 
 use super::*;
 use fh_base::{Moment, NoMemory, QueueName, Text};
-use fh_event::{PlanFault, Reply, answer_text};
+use fh_event::{About, PlanFault, Reply, answer_text};
 use std::alloc::{AllocGlobal, Global};
 use std::process::Abort;
 use std::test::Fail;
@@ -154,7 +154,13 @@ fn reply_of(done: QueueDone) -> Option<Reply> {
         QueueDone::Updated { receipt } => Some(Reply::Updated { receipt }),
         QueueDone::Deleted => Some(Reply::Deleted),
         QueueDone::Cleared { count } => Some(Reply::Cleared { count }),
-        QueueDone::Swept => None,
+        QueueDone::Released { visible_at, .. } => Some(Reply::Acquired { until: visible_at }),
+        QueueDone::Completed { number, .. } => Some(Reply::Noted { number }),
+        QueueDone::Poisoned { copy, receipt } => Some(Reply::Stored {
+            number: copy,
+            receipt,
+        }),
+        QueueDone::Renewed { .. } | QueueDone::Swept => None,
     }
 }
 

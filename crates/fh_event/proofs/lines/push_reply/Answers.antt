@@ -13,8 +13,9 @@ returns-in_ok-push_ended-in-JobReleased c = rw c.in-JobReleased.is c.in_ok-push_
 
 pub returns-in_ok-write-in-Blocked : goal.returns-in_ok-write-in-Blocked
 returns-in_ok-write-in-Blocked c =
+    let values = spaced c.in-Blocked.holder ++ spaced c.in-Blocked.until in
     rw c.in-Blocked.is (
     c.in_ok-write-in-Blocked.ensures.bytes
-    ∙ ap (λ (t : List ℕ). t ++ (spaced c.in-Blocked.holder ++ spaced c.in-Blocked.until)) c.in_ok-push_str-in-Blocked.ensures.bytes
-    ∙ append_assoc (string_bytes c.args.line.now) (codes "quiet blocked") (spaced c.in-Blocked.holder ++ spaced c.in-Blocked.until)
+    ∙ ap (λ (t : List ℕ). t ++ values) c.in_ok-push_str-in-Blocked.ensures.bytes
+    ∙ append_assoc (string_bytes c.args.line.now) (codes "quiet blocked") values
     )

@@ -9,11 +9,20 @@ use Rattle.fh_event.proofs.reading.outputs_in_turn.Goals as goal
 pub returns-in_err-output : goal.returns-in_err-output
 returns-in_err-output c =
     let is : c.from_residual.result ≡ Err c.in_err-output.field-0.0 = grind (arith, common_steps) in
-    rw is (turn_fails 2 c.args.count c.loop-turn.turn c.loop-turn.outputs.items c.loop-turn.rest.now (outputs_in_turn 2 c.args.count c.args.bytes.now)
-    c.loop-turn.invariant c.loop-turn-test.true c.in_err-output.field-0.0 c.in_err-output.ensures)
+    let whole = outputs_in_turn 2 c.args.count c.args.bytes.now in
+    let outputs = c.loop-turn.outputs.items in
+    rw is (
+    turn_fails 2 c.args.count c.loop-turn.turn outputs c.loop-turn.rest.now whole c.loop-turn.invariant
+    c.loop-turn-test.true c.in_err-output.field-0.0 c.in_err-output.ensures
+    )
 
 pub loop-turn-preserved : goal.loop-turn-preserved
 loop-turn-preserved c =
-    ap (λ (os : List Output). behind os (outputs_in_turn 2 (c.args.count - (c.loop-turn.turn + 1)) c.in_ok-output.behind.now)) c.in_ok-push.ensures.items
-    ∙ sym (one_turn 2 c.args.count c.loop-turn.turn c.loop-turn.outputs.items c.loop-turn.rest.now c.in_ok-output.output c.in_ok-output.behind.now c.loop-turn-test.true c.in_ok-output.ensures)
+    let output = c.in_ok-output.output in
+    let rest = c.in_ok-output.behind.now in
+    let outputs = c.loop-turn.outputs.items in
+    let others = outputs_in_turn 2 (c.args.count - (c.loop-turn.turn + 1)) rest in
+    ap (λ (os : List Output). behind os others) c.in_ok-push.ensures.items
+    ∙ sym (one_turn 2 c.args.count c.loop-turn.turn outputs c.loop-turn.rest.now output rest c.loop-turn-test.true
+    c.in_ok-output.ensures)
     ∙ c.loop-turn.invariant
