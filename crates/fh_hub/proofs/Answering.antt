@@ -46,6 +46,7 @@ use Rattle.fh_hub.specs.Stores.{Parts, Done, others_of, ready_by, asked_timers}
 use Rattle.fh_hub.specs.Replies.{reply_of_leases, reply_of_blobs, reply_of_queues, reply_of_others, reply_of_note, reply_of_timers, reply_of_work, reply_of_stores, reply_of}
 use Rattle.fh_hub.specs.Signs.{lists, has_receipt, gives_by, bears}
 use Rattle.fh_hub.specs.World.{World, effective_moment}
+use Rattle.fh_hub.proofs.Plain.{is_plain_answer, plain_asked, answers_plainly}
 use Rattle.fh_hub.proofs.Steps.{Made, is_configure, is_timed, is_fetch, IsAskedOf, asks_at, work_asked, timers_asked_plainly, timer_ask_plain}
 
 -- ---- what each store answers
@@ -120,12 +121,16 @@ pub record Tells (rows : List Message) (reply : Reply) (answer : QueueDone) : Ty
 tells : (rows : List Message) (reply : Reply) (answer : QueueDone) → ((n : ℕ) → bears n reply ≡ born n answer) → ((k : ℕ) → gives_by k rows reply ≡ given k answer) → ((n : ℕ) → lists n reply ≡ lists_item n (items_in answer)) → Tells rows reply answer
 tells rows reply answer births receipts listed = record { births = births; receipts = receipts; lists = listed }
 
-queues_tell : (rows : List Message) (first : Reply) (answer : QueueDone) → IsApart first → Tells rows (reply_of_queues first answer) answer
-queues_tell rows first (done.Stored number receipt) is = tells rows _ _ (λ n. refl) (λ k. refl) (λ n. refl)
-queues_tell rows first (done.Taken items) is = tells rows _ _ (λ n. refl) (λ k. refl) (λ n. refl)
-queues_tell rows first (done.Updated receipt) is = tells rows _ _ (λ n. refl) (λ k. refl) (λ n. refl)
-queues_tell rows first done.Swept is = tells rows _ _ is.births (λ k. is.receipts k rows) is.lists
-queues_tell rows first answer is = tells rows _ _ (λ n. refl) (λ k. refl) (λ n. refl)
+queues_tell : (rows : List Message) (first : Reply) (answer : QueueDone) → is_plain_answer answer ≡ true → IsApart first → Tells rows (reply_of_queues first answer) answer
+queues_tell rows first (done.Stored number receipt) plain is = tells rows _ _ (λ n. refl) (λ k. refl) (λ n. refl)
+queues_tell rows first (done.Taken items) plain is = tells rows _ _ (λ n. refl) (λ k. refl) (λ n. refl)
+queues_tell rows first (done.Updated receipt) plain is = tells rows _ _ (λ n. refl) (λ k. refl) (λ n. refl)
+queues_tell rows first done.Swept plain is = tells rows _ _ is.births (λ k. is.receipts k rows) is.lists
+queues_tell rows first (done.Released receipt visible_at) plain is = absurd (cc)
+queues_tell rows first (done.Renewed messages) plain is = absurd (cc)
+queues_tell rows first (done.Completed number receipt count) plain is = absurd (cc)
+queues_tell rows first (done.Poisoned copy receipt) plain is = absurd (cc)
+queues_tell rows first answer plain is = tells rows _ _ (λ n. refl) (λ k. refl) (λ n. refl)
 
 -- the row of a new message has the receipt that was answered
 abbrev pub HasOwnReceipt : List Message → QueueDone → Type 0
@@ -333,7 +338,9 @@ reply_tells w command now new reply made own =
     stores : Tells rows (reply_of_stores made.done) answer
     stores =
         note_tells rows _ answer made.done.blobs own (blobs_fresh w command now new reply made)
-        (queues_tell rows (reply_of_others made.done) answer (blobs_apart (reply_of_leases made.done.leases) made.done.blobs (leases_apart made.done.leases)))
+        (queues_tell rows (reply_of_others made.done) answer
+        (answers_plainly made.ask answer (plain_asked w.parts command made.ask made.asked) (queues_answered w command now new reply made))
+        (blobs_apart (reply_of_leases made.done.leases) made.done.blobs (leases_apart made.done.leases)))
 
     if_silent : is_fetch command ≡ false → is_silent answer ≡ true → Tells rows (reply_of made.done) answer
     if_silent plain quiet =

@@ -11,7 +11,7 @@ use Rattle.fh_blobs.specs.Laws.{new_versions}
 use Rattle.fh_blobs.proofs.Lawful.{moves_versions}
 use Rattle.fh_hub.specs.Asked.{asks_in}
 use Rattle.fh_dispatch.proofs.Lawful.{moves_numbers}
-use Rattle.fh_hub.specs.Stores.{Parts, Asks, Done, others_of}
+use Rattle.fh_hub.specs.Stores.{Parts, Asks, Done, others_of, asked_queues}
 use Rattle.fh_hub.specs.StoreEdits.{HasNumbers, IsOutcome, parts_of}
 use Rattle.fh_hub.proofs.Outcomes.{all_make}
 use Rattle.fh_hub.proofs.Steps.{asks_as_told}
@@ -52,6 +52,16 @@ versions_within parts after done gate size is within =
     let moves = moves_versions parts.blobs is.asks.blobs is.moment after.blobs done.blobs did in
     let few : new_versions is.asks.blobs ≤ 1 = subst (λ (a : Asks). new_versions a.blobs ≤ 1) (sym told) (few_versions parts is.command is.moment) in
     omega (arith, moves, few, within)
+
+-- what was asked of the queues is plain
+pub plain_outcome : (parts after : Parts) (done : Done) (is : IsOutcome parts after done) → is_plain (asked_queues parts is.asks) ≡ true
+plain_outcome parts after done is =
+    let told = asks_as_told parts is.command is.moment is.asks is.asked in
+    let did = (all_make parts is.asks is.moment after done is.is).work in
+    let made = subst (λ (a : Asks). work_outcome.outcome parts.work (others_of parts) a.work is.moment ≡ Makes after.work done.work) told did in
+    subst (λ (a : Asks). is_plain (asked_queues parts a) ≡ true) (sym told)
+    (plain_asked parts is.command (asked_queues parts (asks_in parts is.command is.moment))
+    (asked_of_queues parts is.command is.moment after.work done.work made))
 
 -- a function and a session more stay within it
 pub record WorksWithin (after : Parts) (gate size : ℕ) : Type 0 where

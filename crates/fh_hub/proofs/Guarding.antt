@@ -34,6 +34,10 @@ listed_as_lists n done.Empty = refl
 listed_as_lists n (done.Updated receipt) = refl
 listed_as_lists n done.Deleted = refl
 listed_as_lists n (done.Cleared count) = refl
+listed_as_lists n (done.Released receipt visible_at) = refl
+listed_as_lists n (done.Renewed messages) = refl
+listed_as_lists n (done.Completed number receipt count) = refl
+listed_as_lists n (done.Poisoned copy receipt) = refl
 listed_as_lists n done.Swept = refl
 
 touches_as_told : (parts : Parts) (m : ℕ) (command : Command) (reply : Reply) (ask : Ask) (answer : QueueDone) (row : Message)

@@ -9,7 +9,6 @@ use Rattle.fh_event.specs.declared.reply.Reply.{Reply}
 use Rattle.fh_queues.specs.declared.done.QueueDone.TheVariants as queue_done
 use Rattle.fh_queues.specs.Asks as queue_asks
 use Rattle.fh_queues.specs.Laws as queue_laws
-use Rattle.fh_queues.specs.Tellings.{newer}
 use Rattle.fh_blobs.specs.declared.done.BlobDone.TheVariants as blob_done
 use Rattle.fh_blobs.specs.Asks as blob_asks
 use Rattle.fh_blobs.specs.Laws as blob_laws
@@ -28,7 +27,7 @@ use Rattle.fh_hub.specs.Replies.{reply_of_leases, reply_of}
 use Rattle.fh_hub.specs.World.{World, empty, effective_moment}
 use Rattle.fh_hub.specs.Replay.{Entry, Event, trace, replay}
 use Rattle.fh_hub.specs.Places.{ends_after}
-use Rattle.fh_hub.specs.Holders.{granted_by, is_taken_by, unless_taken, last_grant, holds, IsHeldByOne}
+use Rattle.fh_hub.specs.Holders.{granted_by, is_taken_by, unless_taken, last_grant, holds, IsHeldByOne, newer}
 use Rattle.fh_hub.proofs.Steps.{Made, is_configure, is_timed, is_fetch, asked_plainly, IsKept, event, kept_by_all}
 use Rattle.fh_hub.proofs.Answering.{swept, works, nothing_done, queues_answered, work_rests, timers_rest}
 

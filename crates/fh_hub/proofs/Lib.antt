@@ -6,6 +6,7 @@ pub mod Recording
 pub mod Replays
 pub mod Spelling
 pub mod Steps
+pub mod Plain
 pub mod Births
 pub mod Answering
 pub mod Told

@@ -41,7 +41,7 @@ gone_stays : (n : ℕ) (before : Message) (events : List Event) (w : World) (com
     → HasRisen n before events w → Made w command now new reply → row_of n new.parts.queues.rows ≡ Some later → row_of n w.parts.queues.rows ≡ None → ⊥
 gone_stays n before events w command now new reply later h made found none = by_end (end_of n w.parts.queues.ends) refl
   where
-    goes : goes_on (effective_moment w now) made.ask made.done.queues n (seen n w.parts.queues) ≡ Stands later
+    goes : goes_on w.parts.queues (effective_moment w now) made.ask made.done.queues n (seen n w.parts.queues) ≡ Stands later
     goes = sym (goes_as_answered w.parts.queues made.ask (effective_moment w now) new.parts.queues made.done.queues h.told.whole made.queues n) ∙ stands_seen n new.parts.queues later found
 
     by_end : (end : Option Ending) → end_of n w.parts.queues.ends ≡ end → ⊥
@@ -51,7 +51,7 @@ gone_stays n before events w command now new reply later h made found none = by_
         omega (arith, h.born, never.0)
     by_end (Some ending) is =
         let gone : seen n w.parts.queues ≡ Ended ending = ap (λ r. seen_by r (end_of n w.parts.queues.ends)) none ∙ ap (seen_by None) is in
-        let stays : Ended ending ≡ Stands later = sym (ap (goes_on (effective_moment w now) made.ask made.done.queues n) gone) ∙ goes in
+        let stays : Ended ending ≡ Stands later = sym (ap (goes_on w.parts.queues (effective_moment w now) made.ask made.done.queues n) gone) ∙ goes in
         cc
 
 risen_kept : (n : ℕ) (before : Message) → IsKept (HasRisen n before)

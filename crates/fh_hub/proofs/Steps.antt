@@ -178,7 +178,7 @@ ready_asks_none : (part : WorkPart) (others : Others) (function : ℕ) (run : Op
 ready_asks_none part others function None = asks_as_it_says part others work_asks.Nothing
 ready_asks_none part others function (Some run) = asks_as_it_says part others (work_asks.Ready function run)
 
-asked_of_queues : (parts : Parts) (command : Command) (m : ℕ) (after : WorkPart) (answer : WorkDone)
+pub asked_of_queues : (parts : Parts) (command : Command) (m : ℕ) (after : WorkPart) (answer : WorkDone)
     → work.outcome parts.work (others_of parts) (asks_in parts command m).work m ≡ judging.Makes after answer
     → IsAskedOf parts command (asked_queues parts (asks_in parts command m))
 asked_of_queues parts (Configure function settings) m after answer is =

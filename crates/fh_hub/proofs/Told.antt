@@ -13,7 +13,7 @@ use Rattle.fh_queues.specs.declared.done.QueueDone.{QueueDone}
 use Rattle.fh_queues.specs.declared.done.QueueDone.TheVariants as done
 use Rattle.fh_queues.specs.declared.done.Ending.{Ending}
 use Rattle.fh_queues.specs.declared.done.Ending.TheVariants.{Deleted, Completed, Moved, Expired}
-use Rattle.fh_queues.specs.declared.row.About.{About}
+use Rattle.fh_event.specs.declared.begun.About.{About}
 use Rattle.fh_queues.specs.Asks.{Ask}
 use Rattle.fh_queues.specs.Asks as queue_asks
 use Rattle.fh_queues.specs.Acts.{numbered}
@@ -24,8 +24,8 @@ use Rattle.fh_queues.specs.Outcome.{after, new_message}
 use Rattle.fh_queues.specs.Seen.{Seen, Unborn, Stands, Ended, seen_by, seen}
 use Rattle.fh_queues.specs.Whole.{IsWhole}
 use Rattle.fh_queues.specs.Receipts.{born, given}
-use Rattle.fh_queues.specs.Goings.{answered, deletes, newly, goes_on}
-use Rattle.fh_queues.specs.Tellings.{items_in, lists as lists_item, own_hold, newer, hold_given, queue_given, expiry_given, removes, IsNew, TellsOfMessages}
+use Rattle.fh_queues.specs.Goings.{answered, ends, ended_or, newly, goes_on}
+use Rattle.fh_queues.specs.Tellings.{items_in, lists as lists_item, own_hold, held_if, held_after, hold_given, queue_given, expiry_given, removes, is_removal, IsNew, IsPassedOver, TellsOfMessages}
 use Rattle.fh_queues.proofs.Lawful.{Whole-none, Whole-outcome, row_seen, goes_as_answered, gives_numbers, gives_receipts, moves_little, tells}
 use Rattle.fh_hub.specs.World.{World, empty, effective_moment}
 use Rattle.fh_hub.specs.Asked.{queue_ask_in}
@@ -36,6 +36,7 @@ use Rattle.fh_hub.specs.Laws.{births, receipts}
 use Rattle.fh_hub.specs.Places.{birth_of, expiry_by, queue_by, expiry_of, queue_of, last_hold, was_removed}
 use Rattle.fh_hub.proofs.Steps.{Made, IsAskedOf, as_asked, IsKept, event, kept_by_all}
 use Rattle.fh_hub.proofs.Answering.{HasOwnReceipt, Tells, queues_answered, reply_tells}
+use Rattle.fh_hub.proofs.Plain.{is_plain, plain_asked, ends_plainly, few_numbers, few_receipts}
 use Rattle.fh_hub.proofs.Births.{birth_now, birth_then}
 
 -- once for each number from 1 on and below the next one
@@ -75,9 +76,9 @@ pub record Told (events : List Event) (w : World) : Type 0 where
 hold_as_told : (parts : Parts) (n m : ℕ) (command : Command) (reply : Reply) (ask : Ask) (answer : QueueDone) → IsAskedOf parts command ask
     → lists n reply ≡ lists_item n (items_in answer) → (signs_of parts m command reply).hold n ≡ hold_given n m ask answer
 hold_as_told parts n m (Fetch function) reply ask answer asked listed =
-    ap (λ among. if among then Some (after m 600) else None) listed ∙ sym (ap (λ a. hold_given n m a answer) asked.2)
+    ap (λ among. held_if among (after m 600)) listed ∙ sym (ap (λ a. hold_given n m a answer) asked.2)
 hold_as_told parts n m (Take queue count hold) reply ask answer asked listed =
-    ap (λ among. if among then Some (after m hold) else None) listed ∙ sym (ap (λ a. hold_given n m a answer) asked)
+    ap (λ among. held_if among (after m hold)) listed ∙ sym (ap (λ a. hold_given n m a answer) asked)
 hold_as_told parts n m command reply ask answer asked listed = as_asked parts command ask (λ a. hold_given n m a answer) refl asked (λ queue. refl)
 
 removes_as_told : (parts : Parts) (n m : ℕ) (command : Command) (reply : Reply) (ask : Ask) → IsAskedOf parts command ask
@@ -86,15 +87,15 @@ removes_as_told parts n m (Fetch function) reply ask asked = sym (ap (removes n 
 removes_as_told parts n m command reply ask asked = as_asked parts command ask (removes n m parts.queues.rows) refl asked (λ queue. refl)
 
 -- the queue and the expiry that a command gives
-record IsBirth (parts : Parts) (m : ℕ) (command : Command) (reply : Reply) (ask : Ask) : Type 0 where
-  pub queue : (signs_of parts m command reply).queue ≡ queue_given ask
+record IsBirth (parts : Parts) (m : ℕ) (command : Command) (reply : Reply) (ask : Ask) (answer : QueueDone) : Type 0 where
+  pub queue : (n : ℕ) → (signs_of parts m command reply).queue ≡ queue_given n ask answer
   pub expiry : (signs_of parts m command reply).expiry ≡ expiry_given m ask
 
-birth_as_told : (parts : Parts) (m : ℕ) (command : Command) (reply : Reply) (ask : Ask) → IsAskedOf parts command ask → IsBirth parts m command reply ask
-birth_as_told parts m (Fetch function) reply ask asked =
-    record { queue = sym (ap queue_given asked.2); expiry = sym (ap (expiry_given m) asked.2) }
-birth_as_told parts m command reply ask asked = record {
-  queue = as_asked parts command ask queue_given refl asked (λ queue. refl);
+birth_as_told : (parts : Parts) (m : ℕ) (command : Command) (reply : Reply) (ask : Ask) (answer : QueueDone) → IsAskedOf parts command ask → IsBirth parts m command reply ask answer
+birth_as_told parts m (Fetch function) reply ask answer asked =
+    record { queue = λ n. sym (ap (λ a. queue_given n a answer) asked.2); expiry = sym (ap (expiry_given m) asked.2) }
+birth_as_told parts m command reply ask answer asked = record {
+  queue = λ n. as_asked parts command ask (λ a. queue_given n a answer) refl asked (λ queue. refl);
   expiry = as_asked parts command ask (expiry_given m) refl asked (λ queue. refl);
 }
 
@@ -162,9 +163,9 @@ module _ (events : List Event) (w : World) (command : Command) (now : ℕ) (new 
   stored_row queue delay ttl text about number receipt asks is =
       row_seen number new.parts.queues (numbered number receipt (new_message m queue delay ttl text about))
       (goes_as_answered w.parts.queues ask m new.parts.queues answer h.whole made.queues number
-      ∙ ap (goes_on m ask answer number) (unborn_now number receipt is)
-      ∙ ap (λ a. newly m a answer number) asks
-      ∙ ap (λ d. newly m (queue_asks.Put queue delay ttl text about) d number) is
+      ∙ ap (goes_on w.parts.queues m ask answer number) (unborn_now number receipt is)
+      ∙ ap (λ a. newly w.parts.queues m a answer number) asks
+      ∙ ap (λ d. newly w.parts.queues m (queue_asks.Put queue delay ttl text about) d number) is
       ∙ ap (λ b. if b then Stands (numbered number receipt (new_message m queue delay ttl text about)) else Unborn) (same number))
     where
       same : (n : ℕ) → (n == n) ≡ true
@@ -209,10 +210,10 @@ module _ (events : List Event) (w : World) (command : Command) (now : ℕ) (new 
       at_most_one true is = omega (arith, is)
       at_most_one false is = omega (arith, is)
 
-  last_hold_is : (n : ℕ) → last_hold n more ≡ newer (last_hold n events) (hold_given n m ask answer)
+  last_hold_is : (n : ℕ) → last_hold n more ≡ held_after (last_hold n events) (hold_given n m ask answer)
   last_hold_is n =
-      fold_push (λ held (x : Event). newer held ((signs x).hold n)) None events e
-      ∙ ap (newer (last_hold n events)) (hold_as_told w.parts n m command reply ask answer made.asked (tellings.lists n))
+      fold_push (λ held (x : Event). held_after held ((signs x).hold n)) None events e
+      ∙ ap (held_after (last_hold n events)) (hold_as_told w.parts n m command reply ask answer made.asked (tellings.lists n))
 
   removed_is : (n : ℕ) → was_removed n more ≡ (was_removed n events || removes n m w.parts.queues.rows ask)
   removed_is n =
@@ -232,13 +233,13 @@ module _ (events : List Event) (w : World) (command : Command) (now : ℕ) (new 
   expiry_then : (n : ℕ) → births n events ≡ 1 → is_before new.last (expiry_of n more) ≡ is_before m (expiry_of n events)
   expiry_then n some = ap (λ k. is_before k (expiry_of n more)) made.last ∙ ap (λ b. is_before m (expiry_by b)) (born_then n some)
 
-  seen_unborn : (n : ℕ) → seen n w.parts.queues ≡ Unborn → IsSeenBy n events w.last Unborn → IsSeenBy n more new.last (newly m ask answer n)
+  seen_unborn : (n : ℕ) → seen n w.parts.queues ≡ Unborn → IsSeenBy n events w.last Unborn → IsSeenBy n more new.last (newly w.parts.queues m ask answer n)
   seen_unborn n is was =
       elim (told.new n) [
-        | inl nothing ↦ subst (IsSeenBy n more new.last) (sym nothing.0) (
-          births_push n ∙ ap (λ b. births n events + (if b then 1 else 0)) nothing.1 ∙ ap (λ k. k + 0) was.0,
+        | inl nothing ↦ subst (IsSeenBy n more new.last) (sym nothing.comes) (
+          births_push n ∙ ap (λ b. births n events + (if b then 1 else 0)) nothing.born ∙ ap (λ k. k + 0) was.0,
           unheld,
-          not_removed n was.2 none.1,
+          not_removed n was.2 none.removed,
         )
         | inr one ↦ subst (IsSeenBy n more new.last) (sym one.1.comes) (first one.0 one.1)
       ]
@@ -246,52 +247,78 @@ module _ (events : List Event) (w : World) (command : Command) (now : ℕ) (new 
       told : TellsOfMessages w.parts.queues m ask new.parts.queues answer
       told = tells w.parts.queues ask m new.parts.queues answer h.whole made.queues
 
-      none : (hold_given n m ask answer ≡ None) × (removes n m w.parts.queues.rows ask ≡ false)
+      none : IsPassedOver w.parts.queues n m ask answer
       none = told.none n (no_row n w.parts.queues Unborn is (λ row stands. cc))
 
       unheld : last_hold n more ≡ None
-      unheld = last_hold_is n ∙ ap (newer (last_hold n events)) none.0 ∙ was.1
+      unheld = last_hold_is n ∙ ap (held_after (last_hold n events)) none.hold ∙ was.1
 
-      first : (row : Message) → IsNew n m ask answer row → IsTold n more row
+      first : (row : Message) → IsNew w.parts.queues n m ask answer row → IsTold n more row
       first row one =
           let bearing : bears n e.reply ≡ true = tellings.births n ∙ one.born in
           let birth : birth_of n more ≡ Some e = birth_now n events e was.0 bearing in
-          let gave = birth_as_told w.parts m command reply ask made.asked in
+          let gave = birth_as_told w.parts m command reply ask answer made.asked in
           record {
             born = births_push n ∙ ap (λ b. births n events + (if b then 1 else 0)) one.born ∙ ap (λ k. k + 1) was.0;
-            queue = one.queue ∙ sym (ap queue_by birth ∙ gave.queue);
+            queue = one.queue ∙ sym (ap queue_by birth ∙ gave.queue n);
             expiry = one.expiry ∙ sym (ap expiry_by birth ∙ gave.expiry);
             hold = one.unheld ∙ sym unheld;
-            stays = not_removed n was.2 none.1;
+            stays = not_removed n was.2 none.removed;
           }
 
-  seen_row : (n : ℕ) (row : Message) → row_of n w.parts.queues.rows ≡ Some row → IsTold n events row → IsSeenBy n more new.last (goes_on m ask answer n (Stands row))
-  seen_row n row found was = by_tests (is_live m row) (deletes ask row) refl refl
+  seen_row : (n : ℕ) (row : Message) → row_of n w.parts.queues.rows ≡ Some row → IsTold n events row → IsSeenBy n more new.last (goes_on w.parts.queues m ask answer n (Stands row))
+  seen_row n row found was = by_test (is_live m row) refl
     where
       told : TellsOfMessages w.parts.queues m ask new.parts.queues answer
       told = tells w.parts.queues ask m new.parts.queues answer h.whole made.queues
 
-      by_tests : (alive out : Bool) → is_live m row ≡ alive → deletes ask row ≡ out → IsSeenBy n more new.last (goes_on m ask answer n (Stands row))
-      by_tests false out over is =
-          subst (IsSeenBy n more new.last) (sym (ap (λ b. if not b then Ended Expired else if deletes ask row then Ended Deleted else Stands (answered m ask answer row)) over)) (record {
-            born = still_one n was.born;
-            over = expiry_then n was.born ∙ sym (ap (is_before m) was.expiry) ∙ over;
-            stays = not_removed n was.stays (told.dead n row found over);
-          })
-      by_tests true true alive is =
-          subst (IsSeenBy n more new.last) (sym (ap (λ b. if not b then Ended Expired else if deletes ask row then Ended Deleted else Stands (answered m ask answer row)) alive ∙ ap (λ b. if b then Ended Deleted else Stands (answered m ask answer row)) is)) (
-            still_one n was.born,
-            removed_is n ∙ ap (λ r. r || removes n m w.parts.queues.rows ask) was.stays ∙ sym (told.removed n row found alive) ∙ is,
-          )
-      by_tests true false alive is =
+      plain : is_plain ask ≡ true
+      plain = plain_asked w.parts command ask made.asked
+
+      goes : (alive : Bool) (ending : Option Ending) → is_live m row ≡ alive → ends ask answer row ≡ ending
+          → goes_on w.parts.queues m ask answer n (Stands row)
+          ≡ (if not alive then Ended Expired else ended_or ending (Stands (answered m ask answer row)))
+      goes alive ending is gone =
+          ap (λ b. if not b then Ended Expired else ended_or (ends ask answer row) (Stands (answered m ask answer row))) is
+          ∙ ap (λ e. if not alive then Ended Expired else ended_or e (Stands (answered m ask answer row))) gone
+
+      by_ending : (ending : Option Ending) → is_live m row ≡ true → ends ask answer row ≡ ending
+          → IsSeenBy n more new.last (ended_or ending (Stands (answered m ask answer row)))
+      by_ending None alive is =
           let same = told.same n row found in
-          subst (IsSeenBy n more new.last) (sym (ap (λ b. if not b then Ended Expired else if deletes ask row then Ended Deleted else Stands (answered m ask answer row)) alive ∙ ap (λ b. if b then Ended Deleted else Stands (answered m ask answer row)) is)) (record {
+          record {
             born = still_one n was.born;
             queue = same.queue ∙ was.queue ∙ sym (ap queue_by (born_then n was.born));
             expiry = same.expiry ∙ was.expiry ∙ sym (ap expiry_by (born_then n was.born));
-            hold = same.hold ∙ ap (λ held. newer held (hold_given n m ask answer)) was.hold ∙ sym (last_hold_is n);
-            stays = not_removed n was.stays (sym (told.removed n row found alive) ∙ is);
+            hold = same.hold ∙ ap (λ held. held_after held (hold_given n m ask answer)) was.hold ∙ sym (last_hold_is n);
+            stays = not_removed n was.stays (sym (told.removed n row found alive) ∙ ap is_removal is);
+          }
+      by_ending (Some Deleted) alive is = (
+        still_one n was.born,
+        removed_is n ∙ ap (λ r. r || removes n m w.parts.queues.rows ask) was.stays ∙ sym (told.removed n row found alive) ∙ ap is_removal is,
+      )
+      by_ending (Some (Completed invocation)) alive is = absurd (not_completed (ends_plainly ask answer row (Completed invocation) plain is))
+        where
+          not_completed : Completed invocation ≡ Deleted → ⊥
+          not_completed same = cc
+      by_ending (Some (Moved copy)) alive is = absurd (not_moved (ends_plainly ask answer row (Moved copy) plain is))
+        where
+          not_moved : Moved copy ≡ Deleted → ⊥
+          not_moved same = cc
+      by_ending (Some Expired) alive is = absurd (not_expired (ends_plainly ask answer row Expired plain is))
+        where
+          not_expired : Expired ≡ Deleted → ⊥
+          not_expired same = cc
+
+      by_test : (alive : Bool) → is_live m row ≡ alive → IsSeenBy n more new.last (goes_on w.parts.queues m ask answer n (Stands row))
+      by_test false over =
+          subst (IsSeenBy n more new.last) (sym (goes false (ends ask answer row) over refl)) (record {
+            born = still_one n was.born;
+            over = expiry_then n was.born ∙ sym (ap (is_before m) was.expiry) ∙ over;
+            stays = not_removed n was.stays (told.dead n row found over).0;
           })
+      by_test true alive =
+          subst (IsSeenBy n more new.last) (sym (goes true (ends ask answer row) alive refl)) (by_ending (ends ask answer row) alive refl)
 
   seen_ended : (n : ℕ) (ending : Ending) → seen n w.parts.queues ≡ Ended ending → IsSeenBy n events w.last (Ended ending) → IsSeenBy n more new.last (Ended ending)
   seen_ended n Deleted is was = (still_one n was.0, removed_is n ∙ ap (λ r. r || removes n m w.parts.queues.rows ask) was.1)
@@ -302,7 +329,7 @@ module _ (events : List Event) (w : World) (command : Command) (now : ℕ) (new 
       record {
         born = still_one n was.born;
         over = expiry_then n was.born ∙ expired_later w.last m (expiry_of n events) (omega arith) was.over;
-        stays = not_removed n was.stays (told.none n (no_row n w.parts.queues (Ended Expired) is (λ row stands. cc))).1;
+        stays = not_removed n was.stays (told.none n (no_row n w.parts.queues (Ended Expired) is (λ row stands. cc))).removed;
       }
 
   seen_after : (n : ℕ) → IsSeenBy n more new.last (seen n new.parts.queues)
@@ -310,7 +337,7 @@ module _ (events : List Event) (w : World) (command : Command) (now : ℕ) (new 
       subst (IsSeenBy n more new.last) (sym (goes_as_answered w.parts.queues ask m new.parts.queues answer h.whole made.queues n))
       (by_seen (seen n w.parts.queues) refl (h.seen n))
     where
-      by_seen : (s : Seen) → seen n w.parts.queues ≡ s → IsSeenBy n events w.last s → IsSeenBy n more new.last (goes_on m ask answer n s)
+      by_seen : (s : Seen) → seen n w.parts.queues ≡ s → IsSeenBy n events w.last s → IsSeenBy n more new.last (goes_on w.parts.queues m ask answer n s)
       by_seen Unborn is was = seen_unborn n is was
       by_seen (Stands row) is was = seen_row n row (row_seen n w.parts.queues row is) was
       by_seen (Ended ending) is was = seen_ended n ending is was

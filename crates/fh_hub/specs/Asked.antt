@@ -9,7 +9,7 @@ use Rattle.fh_event.specs.declared.settings.FunctionSettings.TheVariants as form
 use Rattle.fh_event.specs.declared.reply.Item.{Item}
 use Rattle.fh_event.specs.declared.reply.Reply.{Reply}
 use Rattle.fh_event.specs.declared.reply.Reply.TheVariants as replies
-use Rattle.fh_queues.specs.declared.row.About.{About}
+use Rattle.fh_event.specs.declared.begun.About.{About}
 use Rattle.fh_queues.specs.Asks as queues
 use Rattle.fh_queues.specs.Outcome.{peeked}
 use Rattle.fh_queues.specs.Places.{place_of}

@@ -4,7 +4,6 @@ use Rattle.fh_event.specs.declared.command.Command.{Command}
 use Rattle.fh_event.specs.declared.command.Command.TheVariants.{Acquire, RenewLease, ReleaseLease}
 use Rattle.fh_event.specs.declared.reply.Reply.{Reply}
 use Rattle.fh_event.specs.declared.reply.Reply.TheVariants.{Acquired, Renewed}
-use Rattle.fh_queues.specs.Tellings.{newer}
 use Rattle.fh_leases.specs.Laws.{is_of}
 use Rattle.fh_leases.specs.Part.{holder_at}
 use Rattle.fh_hub.specs.Replay.{Entry, Event, trace, replay}
@@ -20,6 +19,11 @@ granted_by x h command reply = None
 abbrev pub is_taken_by : List ℕ → ℕ → Command → Bool
 is_taken_by x h (ReleaseLease lease holder) = is_of lease holder x h
 is_taken_by x h command = false
+
+-- the second, where there is one
+abbrev pub newer : Option ℕ → Option ℕ → Option ℕ
+newer old None = old
+newer old (Some end) = Some end
 
 abbrev pub unless_taken : Bool → Option ℕ → Option ℕ
 unless_taken true grant = None

@@ -6,7 +6,7 @@ use Rattle.fh_event.specs.declared.reply.Place.TheVariants as place
 use Rattle.fh_queues.specs.declared.row.Message.{Message}
 use Rattle.fh_queues.specs.Rows.{is_before, live_row}
 use Rattle.fh_queues.specs.Places.{place_of}
-use Rattle.fh_queues.specs.Tellings.{newer}
+use Rattle.fh_queues.specs.Tellings.{held_after}
 use Rattle.fh_hub.specs.World.{World}
 use Rattle.fh_hub.specs.Replay.{Entry, Event, trace, replay}
 use Rattle.fh_hub.specs.Signs.{signs, bears}
@@ -34,7 +34,7 @@ queue_of n events = queue_by (birth_of n events)
 
 -- the end of the last hold of the message
 abbrev pub last_hold : ℕ → List Event → Option ℕ
-last_hold n events = fold (λ held e. newer held ((signs e).hold n)) None events
+last_hold n events = fold (λ held e. held_after held ((signs e).hold n)) None events
 
 abbrev pub ends_after : ℕ → Option ℕ → Bool
 ends_after t None = false

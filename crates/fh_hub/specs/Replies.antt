@@ -35,7 +35,7 @@ reply_of_queues reply queues.Empty = replies.Empty
 reply_of_queues reply (queues.Updated receipt) = replies.Updated receipt
 reply_of_queues reply queues.Deleted = replies.Deleted
 reply_of_queues reply (queues.Cleared count) = replies.Cleared count
-reply_of_queues reply queues.Swept = reply
+reply_of_queues reply answer = reply
 
 abbrev pub reply_of_others : Done → Reply
 reply_of_others answer = reply_of_blobs (reply_of_leases answer.leases) answer.blobs

@@ -9,6 +9,7 @@ use Rattle.fh_queues.specs.declared.row.Message.{Message}
 use Rattle.fh_queues.specs.Rows.{is_of, is_visible, row_in, row_of}
 use Rattle.fh_queues.specs.Outcome.{after, expiry_after}
 use Rattle.fh_queues.specs.Receipts.{is_named}
+use Rattle.fh_queues.specs.Tellings.{Hold, Untold, held_if}
 use Rattle.fh_dispatch.specs.declared.trigger.Trigger.{Trigger}
 use Rattle.fh_dispatch.specs.Part.{WorkPart}
 use Rattle.fh_dispatch.specs.Queues.{inner_queue, trigger_of}
@@ -21,15 +22,15 @@ pub record Signs : Type 0 where
   -- the queue and the expiry of the message that is born
   pub queue : List ℕ
   pub expiry : Option ℕ
-  -- until when the message of a number is held, where it is
-  pub hold : ℕ → Option ℕ
+  -- what is told of the hold of the message of a number
+  pub hold : ℕ → Hold
   -- the message of a number is removed by who asks for it
   pub removes : ℕ → Bool
   -- who asks may change the message of a row
   pub acts_on : Message → Bool
 
 abbrev pub no_signs : Signs
-no_signs = record { queue = []; expiry = None; hold = λ n. None; removes = λ n. false; acts_on = λ row. false }
+no_signs = record { queue = []; expiry = None; hold = λ n. Untold; removes = λ n. false; acts_on = λ row. false }
 
 -- the reply lists the message of this number as taken, or as fetched
 abbrev pub lists : ℕ → Reply → Bool
@@ -53,15 +54,15 @@ signs_of parts m (Note function container blob) reply = record no_signs {
   queue = inner_queue (number_in parts.work function);
 }
 signs_of parts m (Take queue count hold) reply = record no_signs {
-  hold = λ n. if lists n reply then Some (after m hold) else None;
+  hold = λ n. held_if (lists n reply) (after m hold);
   acts_on = λ row. is_visible queue m row && lists row.number reply;
 }
 signs_of parts m (Fetch function) reply = record no_signs {
-  hold = λ n. if lists n reply then Some (after m 600) else None;
+  hold = λ n. held_if (lists n reply) (after m 600);
   acts_on = λ row. is_visible (queue_in parts.work function) m row && lists row.number reply;
 }
 signs_of parts m (Update queue number receipt hold text) reply = record no_signs {
-  hold = λ n. if number == n then Some (after m hold) else None;
+  hold = λ n. held_if (number == n) (after m hold);
   acts_on = λ row. is_named queue number receipt row;
 }
 signs_of parts m (Delete queue number receipt) reply = record no_signs {

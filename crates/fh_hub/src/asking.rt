@@ -16,8 +16,7 @@ use crate::note::{NewNote, blob_function};
 use crate::stores::{StoreAsks, Stores};
 use fh_base::{Moment, NoMemory, QueueName, Rule, Text, Texts};
 use fh_dispatch::note_text;
-use fh_event::{Command, PlanFault, Reply};
-use fh_queues::About;
+use fh_event::{About, Command, PlanFault, Reply};
 use fh_timers::TimerAsk;
 use std::alloc::Global;
 

@@ -10,9 +10,9 @@ use crate::stores::{StoreAsks, Stores};
 use fh_base::{NoMemory, QueueName, Text};
 use fh_blobs::BlobAsk;
 use fh_dispatch::{WorkAsk, inner_queue};
-use fh_event::FunctionSettings;
+use fh_event::{About, FunctionSettings};
 use fh_leases::LeaseAsk;
-use fh_queues::{About, QueueAsk};
+use fh_queues::QueueAsk;
 use fh_timers::TimerAsk;
 use std::alloc::Global;
 

@@ -113,6 +113,10 @@ fn reply_of_queues(others: Reply, done: QueueDone) -> Reply
         QueueDone::Updated { receipt } => Reply::Updated { receipt },
         QueueDone::Deleted => Reply::Deleted,
         QueueDone::Cleared { count } => Reply::Cleared { count },
-        QueueDone::Swept => others,
+        QueueDone::Released { .. }
+        | QueueDone::Renewed { .. }
+        | QueueDone::Completed { .. }
+        | QueueDone::Poisoned { .. }
+        | QueueDone::Swept => others,
     }
 }

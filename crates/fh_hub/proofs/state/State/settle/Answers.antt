@@ -7,7 +7,8 @@ use Rattle.fh_hub.specs.StoreEdits.{parts_of, made, made_done}
 use Rattle.fh_hub.specs.Replay.{Entry, bytes_of, payloads_of}
 use Rattle.fh_hub.specs.State.{HubState, IsPlanned}
 use Rattle.fh_hub.proofs.Outcomes.{all_make}
-use Rattle.fh_hub.proofs.Bounds.{receipts_within, versions_within, works_within, begins, goes_within}
+use Rattle.fh_hub.proofs.Plain.{few_numbers, few_receipts}
+use Rattle.fh_hub.proofs.Bounds.{plain_outcome, receipts_within, versions_within, works_within, begins, goes_within}
 use Rattle.fh_hub.proofs.Replays.{faithful_push, legal_planned, payloads_push, gate_push}
 use Rattle.fh_hub.proofs.Spelling.{is_spelled, entry_is}
 use Rattle.fh_hub.proofs.state.State.settle.Goals as goal
@@ -33,16 +34,17 @@ invariant_of-self g c =
     let gate_is : new.gate ≡ gate_behind before.gate (length payload) = grind (arith, common_steps) in
     let grows : new.history ≡ before.history ++ g.e ∷ [] = c.add.ensures ∙ ap (λ (e : Entry). before.history ++ e ∷ []) (entry_is payload g.e c.requires.spelled) in
     let out = planned.outcome in
+    let plain = plain_outcome (parts_of before.stores) parts did out in
     let moves = moves_little before.stores.queues.part (asked_queues (parts_of before.stores) out.asks) out.moment parts.queues did.queues (all_make (parts_of before.stores) out.asks out.moment parts did out.is).queues in
     let pushed : payloads_of new.history ≡ payloads_of before.history ++ payload ∷ [] = ap payloads_of grows ∙ payloads_push before.history g.e ∙ ap (λ (p : List ℕ). payloads_of before.history ++ p ∷ []) (sym c.requires.spelled.spelling) in
-    let given = receipts_within before.gate (length payload) before.stores.queues.part.next_receipt parts.queues.next_receipt (begins before c.self.invariant) c.self.invariant.receipt moves.receipt in
+    let given = receipts_within before.gate (length payload) before.stores.queues.part.next_receipt parts.queues.next_receipt (begins before c.self.invariant) c.self.invariant.receipt (omega (arith, moves.receipt, few_receipts (asked_queues (parts_of before.stores) out.asks) plain)) in
     let versions = versions_within (parts_of before.stores) parts did before.gate (length payload) out c.self.invariant.version in
     let works = works_within (parts_of before.stores) parts did before.gate (length payload) out c.self.invariant.function c.self.invariant.session in
     record {
       place = omega (arith, gate_is, c.self.invariant.place, ap (λ (ps : List (List ℕ)). length (opened ps)) pushed, gate_push (payloads_of before.history) payload);
       within = rw (gate_is, ← size_is) (goes_within before.gate (length (bytes_of g.e)) planned.room);
       timed = c.ms-self-inside.ensures.range;
-      number = omega (arith, gate_is, moves.number, ap (λ (p : Parts). p.queues.next_number) parts_is, c.self.invariant.number);
+      number = omega (arith, gate_is, moves.number, few_numbers (asked_queues (parts_of before.stores) out.asks) plain, ap (λ (p : Parts). p.queues.next_number) parts_is, c.self.invariant.number);
       receipt = rw gate_is (omega (arith, given, ap (λ (p : Parts). p.queues.next_receipt) parts_is));
       version = omega (arith, gate_is, versions, ap (λ (p : Parts). p.blobs.next_version) parts_is);
       function = omega (arith, gate_is, works.functions, ap (λ (p : Parts). p.work.next_function) parts_is);
