@@ -121,14 +121,14 @@ abbrev pub completing : QueuePart → ℕ → ℕ → Option HeldMessage → Lis
 completing part m invocation message outputs =
     unless_refused (complete_rule part m message outputs)
     (Makes (end_job invocation message ++ sends m outputs)
-        (done.Completed part.next_number part.next_receipt (count_sent outputs)))
+    (done.Completed part.next_number part.next_receipt (count_sent outputs)))
 
 -- the message is moved into the queue
 abbrev pub poisoning : QueuePart → ℕ → HeldMessage → List ℕ → Acting
 poisoning part m message queue =
     unless_refused (held_rule part m message)
     (Makes (move part.next_number m message queue (text_of (live_row message.number m part.rows)))
-        (done.Poisoned part.next_number part.next_receipt))
+    (done.Poisoned part.next_number part.next_receipt))
 
 unfoldable pub acting : QueuePart → Ask → ℕ → Acting
 acting part (Make queue) m = making part queue

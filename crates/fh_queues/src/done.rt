@@ -22,21 +22,35 @@ pub enum QueueDone {
     /// Nothing: the queue is there.
     There,
     /// The message has that number and receipt.
-    Stored { number: u64, receipt: u64 },
+    Stored {
+        number: u64,
+        receipt: u64,
+    },
     /// The messages are held.
-    Taken { items: Items },
+    Taken {
+        items: Items,
+    },
     /// Nothing: no message is there.
     Empty,
     /// The message has that receipt now.
-    Updated { receipt: u64 },
+    Updated {
+        receipt: u64,
+    },
     /// The message was removed.
     Deleted,
     /// So many messages were removed.
-    Cleared { count: u64 },
+    Cleared {
+        count: u64,
+    },
     /// The message has that receipt now, and is visible from that moment on, in milliseconds.
-    Released { receipt: u64, visible_at: u64 },
+    Released {
+        receipt: u64,
+        visible_at: u64,
+    },
     /// The messages are held, in the order asked for, with their new receipts.
-    Renewed { messages: HeldMessages },
+    Renewed {
+        messages: HeldMessages,
+    },
     /// So many messages were added, with numbers and receipts from these on.
     Completed {
         number: u64,
@@ -44,6 +58,9 @@ pub enum QueueDone {
         count: u64,
     },
     /// The message was moved, as the message of that number and receipt.
-    Poisoned { copy: u64, receipt: u64 },
+    Poisoned {
+        copy: u64,
+        receipt: u64,
+    },
     Swept,
 }

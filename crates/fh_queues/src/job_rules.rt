@@ -16,12 +16,7 @@ impl Queues {
         receipt_rule(self.row(message.number, m), message.receipt)
     }
 
-    pub(crate) fn release_rule(
-        &self,
-        m: Moment,
-        message: HeldMessage,
-        delay: u64,
-    ) -> Option<Rule>
+    pub(crate) fn release_rule(&self, m: Moment, message: HeldMessage, delay: u64) -> Option<Rule>
         ensures { result ≡ release_rule self.now.part m message delay }
     {
         match self.held_rule(m, message) {
@@ -30,12 +25,7 @@ impl Queues {
         }
     }
 
-    pub(crate) fn renew_rule(
-        &self,
-        m: Moment,
-        messages: &[HeldMessage],
-        hold: u64,
-    ) -> Option<Rule>
+    pub(crate) fn renew_rule(&self, m: Moment, messages: &[HeldMessage], hold: u64) -> Option<Rule>
         ensures { result ≡ renew_rule self.now.part m messages.now hold }
     {
         match self.all_held_rule(m, messages) {
@@ -82,12 +72,7 @@ impl Queues {
         }
     }
 
-    fn room_rule(
-        &self,
-        m: Moment,
-        message: Option<HeldMessage>,
-        outputs: &[Output],
-    ) -> Option<Rule>
+    fn room_rule(&self, m: Moment, message: Option<HeldMessage>, outputs: &[Output]) -> Option<Rule>
         ensures { result ≡ room_rule self.now.part m message outputs.now }
     {
         let live = self.live_beside(m, message);

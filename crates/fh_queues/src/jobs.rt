@@ -252,11 +252,7 @@ fn holds_on(
 }
 
 // The messages, each with a receipt of its own, from that one on.
-fn renewed(
-    alloc: Global,
-    messages: &[HeldMessage],
-    receipt: u64,
-) -> Result<HeldMessages, NoMemory>
+fn renewed(alloc: Global, messages: &[HeldMessage], receipt: u64) -> Result<HeldMessages, NoMemory>
     requires { receipt + length messages.now < 2 ^ 64 }
     ensures { IfOk result (λ renewed_ones. renewed_ones ≡ renewed receipt messages.now) }
 {

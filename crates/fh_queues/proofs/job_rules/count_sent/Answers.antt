@@ -11,6 +11,12 @@ loop-output-preserved c =
     let at = c.loop-output.output-index in
     let more : take (at + 1) outputs ≡ take at outputs ++ c.output-item.result ∷ [] = grind (arith, common_steps) in
     record {
-      count = omega (arith, had.count, c.sent_by-count.ensures.count, ap count_sent more, count_sent-push (take at outputs) c.output-item.result);
+      count = omega (
+        arith,
+        had.count,
+        c.sent_by-count.ensures.count,
+        ap count_sent more,
+        count_sent-push (take at outputs) c.output-item.result,
+      );
       few = omega (arith, had.few, c.sent_by-count.ensures.few);
     }

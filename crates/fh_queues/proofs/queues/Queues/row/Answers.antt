@@ -13,19 +13,22 @@ pub returns-in_default : goal.returns-in_default
 returns-in_default c =
     let rows = kept c.self.inside.lists.slots.items in
     let is = live_row-is c.args.number c.args.m 0 rows c.self.invariant.0.rising in
-    let seen : live_row c.args.number c.args.m rows ≡ live_row c.args.number c.args.m c.args.self.now.part.rows = ap (λ (s : QueueState). live_row c.args.number c.args.m s.part.rows) c.self.view_is in
+    let seen : live_row c.args.number c.args.m rows ≡ live_row c.args.number c.args.m c.args.self.now.part.rows =
+    ap (λ (s : QueueState). live_row c.args.number c.args.m s.part.rows) c.self.view_is in
     grind (arith, common_steps, is, seen, c.row_of.ensures)
 
 pub returns-then-not-is_live : goal.returns-then-not-is_live
 returns-then-not-is_live c =
     let rows = kept c.self.inside.lists.slots.items in
     let is = live_row-is c.args.number c.args.m 0 rows c.self.invariant.0.rising in
-    let seen : live_row c.args.number c.args.m rows ≡ live_row c.args.number c.args.m c.args.self.now.part.rows = ap (λ (s : QueueState). live_row c.args.number c.args.m s.part.rows) c.self.view_is in
+    let seen : live_row c.args.number c.args.m rows ≡ live_row c.args.number c.args.m c.args.self.now.part.rows =
+    ap (λ (s : QueueState). live_row c.args.number c.args.m s.part.rows) c.self.view_is in
     grind (arith, common_steps, is, seen, c.row_of.ensures)
 
 pub returns : goal.returns
 returns c =
     let rows = kept c.self.inside.lists.slots.items in
     let is = live_row-is c.args.number c.args.m 0 rows c.self.invariant.0.rising in
-    let seen : live_row c.args.number c.args.m rows ≡ live_row c.args.number c.args.m c.args.self.now.part.rows = ap (λ (s : QueueState). live_row c.args.number c.args.m s.part.rows) c.self.view_is in
+    let seen : live_row c.args.number c.args.m rows ≡ live_row c.args.number c.args.m c.args.self.now.part.rows =
+    ap (λ (s : QueueState). live_row c.args.number c.args.m s.part.rows) c.self.view_is in
     grind (arith, common_steps, is, seen, c.row_of.ensures)
