@@ -1,6 +1,6 @@
 -- Each ask keeps the queues whole.
-use Rattle.std.proofs.Common.{◌≡◌, ℕ, ◌+◌, ◌≤◌, Bool, true, List, [], ◌∷◌, ◌++◌, Option, Some, None, map, refl, subst, arith}
-use Rattle.std.specs.Prelude.{◌&&◌, nat_le, nat_lt}
+use Rattle.std.proofs.Common.{◌≡◌, ℕ, ◌+◌, true, List, [], ◌∷◌, ◌++◌, Option, Some, None, map, refl, subst, arith}
+use Rattle.std.specs.Prelude.{nat_le}
 use Rattle.std.specs.List.{list_all}
 use Rattle.std.proofs.lemmas.Bool.Decides.{nat_tests}
 use Rattle.fh_event.specs.Judging.{Makes}
@@ -13,7 +13,7 @@ use Rattle.fh_queues.specs.declared.act.Act.{Act}
 use Rattle.fh_queues.specs.Asks.{Ask}
 use Rattle.fh_queues.specs.Rows.{is_visible, visible}
 use Rattle.fh_queues.specs.Part.{QueuePart}
-use Rattle.fh_queues.specs.Acts.{by_acts, sweep}
+use Rattle.fh_queues.specs.Acts.{sweep}
 use Rattle.fh_queues.specs.Jobs.{holding_on, sends, end_job}
 use Rattle.fh_queues.specs.Outcome.{after, taken_items, hold, outcome}
 use Rattle.fh_queues.specs.Whole.{is_counted, IsWhole}

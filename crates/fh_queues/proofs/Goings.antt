@@ -1,5 +1,5 @@
 -- Each message goes on as the ask and its answer say.
-use Rattle.std.proofs.Common.{◌≡◌, ℕ, ◌+◌, ◌<◌, ◌≤◌, Bool, true, false, List, [], ◌∷◌, ◌++◌, length, map, Option, Some, None, refl, sym, ◌∙◌, ap, subst, arith}
+use Rattle.std.proofs.Common.{◌≡◌, ℕ, ◌+◌, ◌<◌, ◌≤◌, Bool, true, false, List, [], ◌∷◌, ◌++◌, length, map, Option, Some, None, refl, sym, ◌∙◌, ap, arith}
 use Rattle.std.specs.Prelude.{◌==◌, nat_lt, if◌then◌else◌}
 use Rattle.std.proofs.lemmas.Bool.Decides.{nat_tests}
 use Rattle.fh_event.specs.declared.outcome.Output.{Output}
@@ -16,10 +16,9 @@ use Rattle.fh_queues.specs.declared.act.NewMessage.{NewMessage}
 use Rattle.fh_queues.specs.declared.act.RowChange.{RowChange}
 use Rattle.fh_queues.specs.declared.act.Which.{Which}
 use Rattle.fh_queues.specs.declared.act.Which.TheVariants.{Dead, InQueue, Numbered}
-use Rattle.fh_queues.specs.declared.act.Act.{Act}
 use Rattle.fh_queues.specs.declared.act.Act.TheVariants.{AddQueue, AddRow, ChangeRow, EndRows}
 use Rattle.fh_queues.specs.Asks.{Ask, Make, Put, Take, Update, Delete, Clear, Release, Renew, Complete, Poison, Sweep}
-use Rattle.fh_queues.specs.Rows.{is_of, is_dead, is_visible, visible, live, row_of, live_row}
+use Rattle.fh_queues.specs.Rows.{is_dead, is_visible, visible, live, row_of, live_row}
 use Rattle.fh_queues.specs.Order.{are_rising}
 use Rattle.fh_queues.specs.Part.{QueuePart, end_of}
 use Rattle.fh_queues.specs.Acts.{numbered, changed, is_one, acted, by_acts, sweep}
@@ -28,7 +27,7 @@ use Rattle.fh_queues.specs.Jobs.{freed, held_on, holding_on, renewed, plain_mess
 use Rattle.fh_queues.specs.Receipts.{item_of}
 use Rattle.fh_queues.specs.Seen.{Seen, Unborn, Stands, Ended, seen_by, seen}
 use Rattle.fh_queues.specs.Whole.{IsWhole}
-use Rattle.fh_queues.specs.Goings.{held_by, held_again, answered, names, ended_if, ends, stands_if, sent, newly, ended_or, goes_on}
+use Rattle.fh_queues.specs.Goings.{held_by, held_again, ended_if, stands_if, sent, newly, ended_or, goes_on}
 use Rattle.fh_queues.proofs.Finding.{row_of-number, are_rising-filter, are_rising-take}
 use Rattle.fh_queues.proofs.Seen.{ended_by, with_row_of, seen-with_ends, seen-with_row_change, seen-with_row}
 use Rattle.fh_queues.proofs.Whole.{all_given, row_of-new, seen-new, Whole-acted}

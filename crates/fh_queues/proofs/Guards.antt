@@ -1,17 +1,15 @@
 -- A message is changed only by who has its newest receipt, and its receipt only rises.
-use Rattle.std.proofs.Common.{◌≡◌, ◌≢◌, ℕ, ◌+◌, ◌≤◌, ◌<◌, Bool, true, false, not, ◌⊎◌, inl, inr, List, [], ◌∷◌, Option, Some, None, refl, sym, ◌∙◌, ap, subst, arith}
+use Rattle.std.proofs.Common.{◌≡◌, ℕ, ◌+◌, ◌≤◌, ◌<◌, Bool, true, false, not, inl, inr, List, [], ◌∷◌, Option, Some, None, refl, sym, ◌∙◌, ap, subst, arith}
 use Rattle.std.specs.Prelude.{◌&&◌, ◌==◌, if◌then◌else◌, is_some}
 use Rattle.std.specs.List.{list_any}
 use Rattle.std.proofs.lemmas.Bool.Decides.{nat_tests}
 use Rattle.fh_event.specs.declared.reply.Item.{Item}
 use Rattle.fh_queues.specs.declared.held.HeldMessage.{HeldMessage}
 use Rattle.fh_queues.specs.declared.done.Ending.{Ending}
-use Rattle.fh_event.specs.Judging.{Makes}
 use Rattle.fh_queues.specs.declared.row.Message.{Message}
 use Rattle.fh_queues.specs.declared.done.QueueDone.{QueueDone}
-use Rattle.fh_queues.specs.declared.done.QueueDone.TheVariants as done
 use Rattle.fh_queues.specs.declared.done.Ending.TheVariants.{Deleted, Completed, Moved, Expired}
-use Rattle.fh_queues.specs.Asks.{Ask, Take, Update}
+use Rattle.fh_queues.specs.Asks.{Ask}
 use Rattle.fh_queues.specs.Rows.{is_of, is_live, is_dead, is_visible, row_of, row_in}
 use Rattle.fh_queues.specs.Order.{are_rising}
 use Rattle.fh_queues.specs.Part.{QueuePart}
@@ -19,11 +17,11 @@ use Rattle.fh_queues.specs.Acts.{changed}
 use Rattle.fh_queues.specs.Jobs.{freed, held_on, renewed}
 use Rattle.fh_queues.specs.Outcome.{after, renewal}
 use Rattle.fh_queues.specs.Receipts.{item_of, is_named, is_held_as, is_job_of, touches, Rises}
-use Rattle.fh_queues.specs.Seen.{Seen, Stands, Ended, seen}
+use Rattle.fh_queues.specs.Seen.{Stands, Ended}
 use Rattle.fh_queues.specs.Whole.{is_counted, IsWhole}
 use Rattle.fh_queues.specs.Goings.{held_by, held_again, answered, names, ended_if, ends, ended_or, goes_on}
-use Rattle.fh_queues.proofs.Finding.{all_row_of, row_of-above, live_row-found}
-use Rattle.fh_queues.proofs.Goings.{row_seen, same_number}
+use Rattle.fh_queues.proofs.Finding.{all_row_of, live_row-found}
+use Rattle.fh_queues.proofs.Goings.{same_number}
 use Rattle.fh_queues.proofs.Takes.{taken}
 use Rattle.fh_queues.proofs.Ways.{IsNamed, IsHeld, AreHeld, IsJob, Ways, listed}
 

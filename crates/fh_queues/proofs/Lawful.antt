@@ -1,14 +1,11 @@
 -- What every layer above may cite: one lemma for each law of the queues.
-use Rattle.std.proofs.Common.{◌≡◌, ℕ, ◌∷◌, [], true, false, List, Option, Some, None, map, refl, sym, ◌∙◌, ap, subst}
-use Rattle.fh_event.specs.declared.reply.Item.{Item}
+use Rattle.std.proofs.Common.{◌≡◌, ℕ, true, refl, sym, ◌∙◌, ap, subst}
 use Rattle.fh_event.specs.Judging.{Makes}
-use Rattle.fh_queues.specs.declared.row.Message.{Message}
 use Rattle.fh_queues.specs.declared.done.QueueDone.{QueueDone}
 use Rattle.fh_queues.specs.Asks.{Ask}
-use Rattle.fh_queues.specs.Rows.{is_live}
 use Rattle.fh_queues.specs.Part.{QueuePart}
 use Rattle.fh_queues.specs.Outcome.{outcome}
-use Rattle.fh_queues.specs.Seen.{Stands, seen}
+use Rattle.fh_queues.specs.Seen.{seen}
 use Rattle.fh_queues.specs.Whole.{IsWhole}
 use Rattle.fh_queues.specs.Laws.{OfEachAsk, GoesOnAsAnswered, KeepsUntouched, RaisesReceipts, TakesVisible, HasShortTexts, MovesLittle, GivesNumbersInTurn, GivesReceiptsInTurn, answers, AnswersTheAsk}
 use Rattle.fh_queues.specs.Goings.{goes_on}

@@ -1,5 +1,5 @@
 -- Numbers and receipts are given in turn.
-use Rattle.std.proofs.Common.{◌≡◌, ℕ, suc, ◌+◌, ◌≤◌, ◌<◌, Bool, true, false, cond, List, [], ◌∷◌, ◌++◌, Option, Some, None, length, take, map, refl, sym, ◌∙◌, ap, arith, length-take}
+use Rattle.std.proofs.Common.{◌≡◌, ℕ, suc, ◌+◌, ◌≤◌, false, cond, List, [], ◌∷◌, ◌++◌, Option, Some, None, length, map, refl, sym, ◌∙◌, ap, arith, length-take}
 use Rattle.std.specs.Prelude.{◌==◌, ◌&&◌, nat_le, nat_lt, if◌then◌else◌, count_by}
 use Rattle.std.proofs.lemmas.Bool.Decides.{nat_tests}
 use Rattle.std.proofs.lemmas.List.Sums.{sum_by-cons}
@@ -9,7 +9,6 @@ use Rattle.fh_event.specs.declared.reply.Item.{Item}
 use Rattle.fh_queues.specs.declared.held.HeldMessage.{HeldMessage}
 use Rattle.fh_queues.specs.declared.row.Message.{Message}
 use Rattle.fh_queues.specs.declared.done.QueueDone.{QueueDone}
-use Rattle.fh_queues.specs.declared.done.QueueDone.TheVariants as done
 use Rattle.fh_queues.specs.declared.done.Ending.{Ending}
 use Rattle.fh_queues.specs.declared.done.Ending.TheVariants.{Completed, Moved}
 use Rattle.fh_queues.specs.declared.act.Which.TheVariants.{Numbered}

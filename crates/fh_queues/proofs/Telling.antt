@@ -1,6 +1,6 @@
 -- What asks and answers tell of messages is what becomes of their rows.
-use Rattle.std.proofs.Common.{◌≡◌, ℕ, ◌+◌, Bool, true, false, ◌⊎◌, inl, inr, List, [], ◌∷◌, take, zero, suc, Option, Some, None, is_some, refl, sym, ◌∙◌, ap, subst, arith}
-use Rattle.std.specs.Prelude.{◌==◌, ◌&&◌, if◌then◌else◌, filter}
+use Rattle.std.proofs.Common.{◌≡◌, ℕ, ◌+◌, Bool, true, false, ◌⊎◌, inl, inr, List, [], ◌∷◌, Option, Some, None, is_some, refl, sym, ◌∙◌, ap, subst, arith}
+use Rattle.std.specs.Prelude.{◌==◌, ◌&&◌, if◌then◌else◌}
 use Rattle.std.specs.List.{list_any}
 use Rattle.std.proofs.lemmas.Bool.Decides.{nat_tests}
 use Rattle.fh_event.specs.declared.outcome.Output.{Output}
@@ -11,9 +11,7 @@ use Rattle.fh_queues.specs.declared.row.Message.{Message}
 use Rattle.fh_event.specs.declared.begun.About.{About}
 use Rattle.fh_queues.specs.declared.done.QueueDone.{QueueDone}
 use Rattle.fh_queues.specs.declared.done.QueueDone.TheVariants as done
-use Rattle.fh_queues.specs.declared.done.Ending.{Ending}
 use Rattle.fh_queues.specs.declared.done.Ending.TheVariants.{Deleted, Completed, Moved}
-use Rattle.fh_queues.specs.declared.act.Act.{Act}
 use Rattle.fh_queues.specs.Asks.{Ask, Put, Take, Update, Release, Renew, Complete, Poison}
 use Rattle.fh_queues.specs.Rows.{is_of, is_live, row_in, row_of, live_row}
 use Rattle.fh_queues.specs.Order.{are_rising}
@@ -22,13 +20,12 @@ use Rattle.fh_queues.specs.Acts.{numbered, changed}
 use Rattle.fh_queues.specs.Jobs.{freed, held_on, renewed, plain_message, count_sent, text_of}
 use Rattle.fh_queues.specs.Outcome.{after, new_message, renewal}
 use Rattle.fh_queues.specs.Receipts.{is_among, item_of, born}
-use Rattle.fh_queues.specs.Seen.{Seen, Unborn, Stands}
+use Rattle.fh_queues.specs.Seen.{Unborn, Stands}
 use Rattle.fh_queues.specs.Whole.{IsWhole}
-use Rattle.fh_queues.specs.Goings.{held_by, held_again, names, ended_if, ends, stands_if, sent, newly}
-use Rattle.fh_queues.specs.Tellings.{lists, queue_sent, Hold, Untold, HeldUntil, held_if, freed_if, held_after, own_hold, hold_given, removes, moves, is_removal, is_move, IsUntold, IsNew, IsSame, IsPassedOver, TellsOfMessages}
+use Rattle.fh_queues.specs.Goings.{held_by, held_again, names, ended_if, stands_if, sent, newly}
+use Rattle.fh_queues.specs.Tellings.{lists, queue_sent, Untold, held_if, freed_if, held_after, own_hold, hold_given, removes, moves, is_removal, is_move, IsUntold, IsNew, IsSame, IsPassedOver, TellsOfMessages}
 use Rattle.fh_queues.specs.Laws.{OfEachAsk}
-use Rattle.fh_queues.proofs.Finding.{row_of-number, row_of-above, live_row-found}
-use Rattle.fh_queues.proofs.Goings.{same_number, sent-below}
+use Rattle.fh_queues.proofs.Finding.{row_of-number, live_row-found}
 use Rattle.fh_queues.proofs.Guards.{row_in-above}
 use Rattle.fh_queues.proofs.Takes.{taken}
 use Rattle.fh_queues.proofs.Ways.{IsNamed, IsHeld, AreHeld, IsJob, Ways, listed, by_ways}

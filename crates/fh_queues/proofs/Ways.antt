@@ -1,5 +1,5 @@
 -- The ways in which an ask changes the queues: what holds of each holds of every outcome.
-use Rattle.std.proofs.Common.{◌≡◌, ℕ, ◌≤◌, Bool, true, false, List, [], ◌∷◌, ◌++◌, length, take, map, Option, Some, None, refl, sym, subst, arith}
+use Rattle.std.proofs.Common.{◌≡◌, ℕ, ◌≤◌, Bool, true, false, List, [], ◌∷◌, ◌++◌, length, take, map, Option, Some, None, refl, subst, arith}
 use Rattle.std.specs.Prelude.{⊤, ◌==◌, ◌&&◌, nat_le, nat_lt, IfSome, if◌then◌else◌}
 use Rattle.std.proofs.lemmas.Bool.Decides.{nat_tests}
 use Rattle.fh_base.specs.declared.rule.Rule.{Rule}
@@ -24,7 +24,7 @@ use Rattle.fh_queues.specs.Acts.{by_acts, sweep}
 use Rattle.fh_queues.specs.Rules.{first_broken, text_rule, ttl_rule, delay_rule, put_rule, take_rule, queue_rule, receipt_rule, message_rule, update_rule, new_text_rule, range_rule, held_rule, release_rule, renew_rule, name_rule, output_rule, outputs_rule, job_rule, room_rule, complete_rule}
 use Rattle.fh_queues.specs.Jobs.{release, holding_on, renewed, sends, count_sent, end_job, move, text_of}
 use Rattle.fh_queues.specs.Laws.{AreShort}
-use Rattle.fh_queues.specs.Outcome.{after, new_message, taken_items, hold, renewal, rows_of, Acting, making, holding, clearing, acting, made_by, outcome}
+use Rattle.fh_queues.specs.Outcome.{after, new_message, taken_items, hold, renewal, rows_of, Acting, holding, clearing, acting, made_by, outcome}
 
 -- the messages that a take holds, and how they are listed
 abbrev pub chosen : QueuePart → ℕ → List ℕ → ℕ → List Message

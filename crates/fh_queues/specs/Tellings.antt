@@ -8,7 +8,7 @@ use Rattle.fh_queues.specs.declared.row.Message.{Message}
 use Rattle.fh_queues.specs.declared.done.QueueDone.{QueueDone}
 use Rattle.fh_queues.specs.declared.done.QueueDone.TheVariants as done
 use Rattle.fh_queues.specs.declared.done.Ending.{Ending}
-use Rattle.fh_queues.specs.declared.done.Ending.TheVariants.{Deleted, Completed, Moved, Expired}
+use Rattle.fh_queues.specs.declared.done.Ending.TheVariants.{Deleted, Completed, Moved}
 use Rattle.fh_queues.specs.Asks.{Ask, Put, Take, Update, Delete, Clear, Release, Renew, Complete, Poison}
 use Rattle.fh_queues.specs.Rows.{is_live, row_in, row_of}
 use Rattle.fh_queues.specs.Part.{QueuePart}

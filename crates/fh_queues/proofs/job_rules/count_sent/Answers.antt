@@ -1,4 +1,4 @@
-use Rattle.std.proofs.Common.{arith, ◌≡◌, ◌+◌, ◌++◌, ◌∷◌, [], take, sym, ap, ◌∙◌}
+use Rattle.std.proofs.Common.{arith, ◌≡◌, ◌+◌, ◌++◌, ◌∷◌, [], take, ap}
 use Rattle.std.proofs.lemmas.Grind.{common_steps}
 use Rattle.fh_queues.specs.Jobs.{count_sent}
 use Rattle.fh_queues.proofs.Sending.{count_sent-push}

@@ -1,9 +1,6 @@
-use Rattle.std.proofs.Common.{◌≡◌, ◌+◌, ◌<◌, List, ℕ, length, Some, None, ap, subst, sym, ◌∙◌, arith}
+use Rattle.std.proofs.Common.{◌≡◌, Some, None, ap, sym, ◌∙◌, arith}
 use Rattle.std.proofs.lemmas.List.{get_or_read, length-map}
-use Rattle.fh_queues.specs.declared.done.Ending.{Ending}
 use Rattle.fh_queues.specs.declared.done.Ending.TheVariants.{Expired}
-use Rattle.fh_queues.specs.declared.row.Message.{Message}
-use Rattle.fh_queues.specs.declared.slot.Slot.{Slot}
 use Rattle.fh_queues.specs.declared.slot.Slot.TheVariants.{Row, Ended}
 use Rattle.fh_queues.specs.Rows.{row_of}
 use Rattle.fh_queues.specs.Part.{end_of}
@@ -11,7 +8,6 @@ use Rattle.fh_queues.specs.Seen.{seen_by}
 use Rattle.fh_queues.specs.Places.{place_by, place_of}
 use Rattle.fh_queues.specs.Edits.{QueueState}
 use Rattle.fh_queues.specs.Index.{kept, ends_of, ending_of, slot_at}
-use Rattle.fh_queues.specs.Lists.{part_of}
 use Rattle.fh_queues.proofs.Indexes.{numbered}
 use Rattle.fh_queues.proofs.Slots.{row_of-none, row_of-at, none_at, none_beyond}
 use Rattle.fh_queues.proofs.Looking.{end_of-at, end_of-none}

@@ -1,11 +1,8 @@
-use Rattle.std.proofs.Common.{◌≡◌, List, ℕ, Some, None, true, false, ap, subst, sym, ◌∙◌, arith}
-use Rattle.std.specs.Prelude.{option_copied, if◌then◌else◌, Option}
+use Rattle.std.proofs.Common.{◌≡◌, ap, arith}
 use Rattle.std.proofs.lemmas.Grind.{common_steps}
-use Rattle.fh_queues.specs.declared.row.Message.{Message}
-use Rattle.fh_queues.specs.Rows.{is_of, is_live, row_of, live_row, row_in}
+use Rattle.fh_queues.specs.Rows.{live_row}
 use Rattle.fh_queues.specs.Edits.{QueueState}
 use Rattle.fh_queues.specs.Index.{kept}
-use Rattle.fh_queues.proofs.Finding.{keep_if}
 use Rattle.fh_queues.proofs.Finding.{live_row-is}
 use Rattle.fh_queues.proofs.queues.Queues.row.Goals as goal
 

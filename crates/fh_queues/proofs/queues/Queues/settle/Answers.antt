@@ -1,4 +1,4 @@
-use Rattle.std.proofs.Common.{rules, ◌≡◌, ◌∙◌, List, Some, ap, subst, sym, arith}
+use Rattle.std.proofs.Common.{rules, ◌≡◌, List, Some, ap, subst, sym, arith}
 use Rattle.std.specs.Prelude.{option_map}
 use Rattle.std.proofs.lemmas.Grind.{common_steps}
 use Rattle.fh_event.specs.Judging.{Makes}

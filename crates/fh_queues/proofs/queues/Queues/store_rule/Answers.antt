@@ -1,5 +1,4 @@
-use Rattle.std.proofs.Common.{arith, ◌<◌, ◌≡◌, length, sym, ap, ◌∙◌}
-use Rattle.std.proofs.lemmas.Grind.{common_steps}
+use Rattle.std.proofs.Common.{arith, ◌<◌, ◌≡◌, length, sym, ap}
 use Rattle.fh_queues.specs.Edits.{QueueState}
 use Rattle.fh_queues.specs.Index.{kept}
 use Rattle.fh_queues.proofs.Filters.{store_rule-few}
