@@ -1,10 +1,9 @@
 -- What the index says of rows, and that it is kept.
 use Rattle.std.proofs.Common.{◌≡◌, ◌≢◌, ℕ, zero, suc, ◌+◌, ◌-◌, ◌<◌, ◌≤◌, ◌^◌, Bool, true, false, List, [], ◌∷◌, ◌++◌, length, refl, sym, ap, subst, ◌∙◌, inl, inr, arith, add-one}
-use Rattle.std.specs.Prelude.{nat_lt, not, set, slice_index, Option, Some, None}
+use Rattle.std.specs.Prelude.{nat_lt, set, slice_index, Option, Some, None}
 use Rattle.std.specs.Str.{bytes_eq}
 use Rattle.std.proofs.lemmas.Bool.{cases_eq}
 use Rattle.std.proofs.lemmas.Bool.Decides.{nat_tests}
-use Rattle.std.proofs.lemmas.Grind.{common_steps}
 use Rattle.std.proofs.lemmas.List.{get_or-set_same, get_or-set_other, length-set, get_or_append_left, get_or_push, length_push}
 use Rattle.fh_minima.specs.Tower.{AreAbove}
 use Rattle.fh_queues.specs.declared.row.Message.{Message}
@@ -14,7 +13,7 @@ use Rattle.fh_queues.specs.declared.slot.Slot.TheVariants.{Row, Ended}
 use Rattle.fh_queues.specs.Rows.{is_before, is_of, is_visible, is_dead}
 use Rattle.fh_queues.specs.Lanes.{LaneValue, KeepsKeys, IsReady}
 use Rattle.fh_queues.specs.Index.{slot_at, live_of, IsNoLater, IsListed, IsLane, IsIndexed, Skips}
-use Rattle.fh_queues.proofs.Naming.{bytes_same, bytes_self}
+use Rattle.fh_queues.proofs.Naming.{bytes_same}
 use Rattle.fh_queues.proofs.Slots.{AreNumbered, slot_within}
 
 pub numbered : (lane : List ℕ → LaneValue) (slots : List Slot) (expiries : List ℕ) → IsIndexed lane slots expiries → AreNumbered 0 slots

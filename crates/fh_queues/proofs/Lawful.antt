@@ -1,14 +1,12 @@
 -- What every layer above may cite: one lemma for each law of the queues.
-use Rattle.std.proofs.Common.{◌≡◌, ℕ, ◌∷◌, [], true, false, List, Option, Some, None, map, refl, sym, ◌∙◌, ap, subst, arith, length-take}
-use Rattle.fh_event.specs.declared.reply.Item.{Item}
+use Rattle.std.proofs.Common.{◌≡◌, ℕ, true, refl, sym, ◌∙◌, ap, subst, arith, length-take}
 use Rattle.fh_event.specs.Judging.{Makes}
-use Rattle.fh_queues.specs.declared.row.Message.{Message}
 use Rattle.fh_queues.specs.declared.done.QueueDone.{QueueDone}
 use Rattle.fh_queues.specs.Asks.{Ask}
-use Rattle.fh_queues.specs.Rows.{is_live, visible}
+use Rattle.fh_queues.specs.Rows.{visible}
 use Rattle.fh_queues.specs.Part.{QueuePart}
 use Rattle.fh_queues.specs.Outcome.{outcome}
-use Rattle.fh_queues.specs.Seen.{Stands, seen}
+use Rattle.fh_queues.specs.Seen.{seen}
 use Rattle.fh_queues.specs.Whole.{IsWhole}
 use Rattle.fh_queues.specs.Laws.{OfEachAsk, GoesOnAsAnswered, KeepsUntouched, RaisesReceipts, TakesVisible, HasShortTexts, MovesLittle, GivesNumbersInTurn, GivesReceiptsInTurn, answers, AnswersTheAsk, ListsFew, TakesFew}
 use Rattle.fh_queues.specs.Goings.{goes_on}
@@ -41,7 +39,8 @@ raises_receipts part ask m after answer h is n before later stands then =
     rises_by part m h ask answer n before later way.holds (row_seen n part before stands)
     (sym (goes_as_answered part ask m after answer h is n ∙ ap (goes_on part m ask answer n) stands) ∙ then)
 
-take_ways : (part : QueuePart) (m : ℕ) → IsWhole part → Ways (λ ask acts answer. (after : QueuePart) → TakesVisible part m ask after answer) part m
+take_ways : (part : QueuePart) (m : ℕ) → IsWhole part
+    → Ways (λ ask acts answer. (after : QueuePart) → TakesVisible part m ask after answer) part m
 take_ways part m h = record {
   makes = λ queue after n. refl;
   puts = λ queue delay ttl text about short after n. refl;
@@ -59,7 +58,8 @@ take_ways part m h = record {
 pub takes_visible : OfEachAsk TakesVisible
 takes_visible part ask m after answer h is = (by_ways _ part m (take_ways part m h) after answer ask is).holds after
 
-short_ways : (part : QueuePart) (m : ℕ) → Ways (λ ask acts answer. (after : QueuePart) → HasShortTexts part m ask after answer) part m
+short_ways : (part : QueuePart) (m : ℕ)
+    → Ways (λ ask acts answer. (after : QueuePart) → HasShortTexts part m ask after answer) part m
 short_ways part m = record {
   makes = λ queue after. tt;
   puts = λ queue delay ttl text about short after. short;
@@ -81,7 +81,13 @@ pub moves_little : (part : QueuePart) (ask : Ask) (m : ℕ) (after : QueuePart) 
     → outcome part ask m ≡ Makes after answer → MovesLittle part m ask after answer
 moves_little part ask m after answer is =
     let way = by_ways _ part m (givings part m) after answer ask is in
-    subst (λ (p : QueuePart). MovesLittle part m ask p answer) way.made (record { numbers = way.holds.numbers; receipts = way.holds.receipts; number = way.holds.one; receipt = way.holds.few })
+    subst (λ (p : QueuePart). MovesLittle part m ask p answer) way.made
+    (record {
+      numbers = way.holds.numbers;
+      receipts = way.holds.receipts;
+      number = way.holds.one;
+      receipt = way.holds.few;
+    })
 
 pub gives_numbers : OfEachAsk GivesNumbersInTurn
 gives_numbers part ask m after answer h is =

@@ -1,5 +1,5 @@
 -- What a peek lists stands in order of number.
-use Rattle.std.proofs.Common.{◌≡◌, ℕ, Bool, true, List, [], ◌∷◌, take, map, Option, Some, None, refl, sym, ◌∙◌, ap}
+use Rattle.std.proofs.Common.{◌≡◌, ℕ, true, List, [], ◌∷◌, take, map, Option, Some, None, refl, sym, ◌∙◌, ap}
 use Rattle.std.specs.Prelude.{◌&&◌, nat_lt, Ok}
 use Rattle.fh_base.specs.declared.rule.Rule.{Rule}
 use Rattle.fh_event.specs.declared.reply.Item.{Item}

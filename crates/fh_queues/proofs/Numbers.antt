@@ -1,5 +1,5 @@
 -- Numbers and receipts are given in turn.
-use Rattle.std.proofs.Common.{◌≡◌, ℕ, suc, ◌+◌, ◌≤◌, ◌<◌, Bool, true, false, cond, List, [], ◌∷◌, ◌++◌, Option, Some, None, length, take, map, refl, sym, ◌∙◌, ap, arith, length-take}
+use Rattle.std.proofs.Common.{◌≡◌, ℕ, suc, ◌+◌, ◌≤◌, false, cond, List, [], ◌∷◌, ◌++◌, Option, Some, None, length, map, refl, sym, ◌∙◌, ap, arith, length-take}
 use Rattle.std.specs.Prelude.{◌==◌, ◌&&◌, nat_le, nat_lt, if◌then◌else◌, count_by}
 use Rattle.std.proofs.lemmas.Bool.Decides.{nat_tests}
 use Rattle.std.proofs.lemmas.List.Sums.{sum_by-cons}
@@ -9,7 +9,6 @@ use Rattle.fh_event.specs.declared.reply.Item.{Item}
 use Rattle.fh_queues.specs.declared.held.HeldMessage.{HeldMessage}
 use Rattle.fh_queues.specs.declared.row.Message.{Message}
 use Rattle.fh_queues.specs.declared.done.QueueDone.{QueueDone}
-use Rattle.fh_queues.specs.declared.done.QueueDone.TheVariants as done
 use Rattle.fh_queues.specs.declared.done.Ending.{Ending}
 use Rattle.fh_queues.specs.declared.done.Ending.TheVariants.{Completed, Moved}
 use Rattle.fh_queues.specs.declared.act.Which.TheVariants.{Numbered}
@@ -48,42 +47,51 @@ counts part (AddRow new) = record { number = refl; receipt = refl }
 counts part (ChangeRow number change) = record { number = omega arith; receipt = refl }
 counts part (EndRows which ending) = record { number = omega arith; receipt = omega arith }
 
-counts_held : (until : ℕ) (items : List Item) (part : QueuePart) → Counted part (by_acts part (map (hold until) items)) 0 (length items)
+counts_held : (until : ℕ) (items : List Item) (part : QueuePart)
+    → Counted part (by_acts part (map (hold until) items)) 0 (length items)
 counts_held until [] part = record { number = omega arith; receipt = omega arith }
 counts_held until (item ∷ items) part =
     let one = counts part (hold until item) in
     let rest = counts_held until items (acted part (hold until item)) in
     record { number = omega (arith, one.number, rest.number); receipt = omega (arith, one.receipt, rest.receipt) }
 
-counts_renewed : (until : ℕ) (messages : List HeldMessage) (part : QueuePart) → Counted part (by_acts part (map (holding_on until) messages)) 0 (length messages)
+counts_renewed : (until : ℕ) (messages : List HeldMessage) (part : QueuePart)
+    → Counted part (by_acts part (map (holding_on until) messages)) 0 (length messages)
 counts_renewed until [] part = record { number = omega arith; receipt = omega arith }
 counts_renewed until (message ∷ messages) part =
     let one = counts part (holding_on until message) in
     let rest = counts_renewed until messages (acted part (holding_on until message)) in
     record { number = omega (arith, one.number, rest.number); receipt = omega (arith, one.receipt, rest.receipt) }
 
-counts_sent : (m : ℕ) (outputs : List Output) (part : QueuePart) → Counted part (by_acts part (sends m outputs)) (count_sent outputs) (count_sent outputs)
+counts_sent : (m : ℕ) (outputs : List Output) (part : QueuePart)
+    → Counted part (by_acts part (sends m outputs)) (count_sent outputs) (count_sent outputs)
 counts_sent m [] part = record { number = omega arith; receipt = omega arith }
 counts_sent m (outputs.Queue queue text ∷ more) part =
     let made = acted part (AddQueue queue) in
     let first = counts part (AddQueue queue) in
     let second = counts made (AddRow (plain_message m queue text)) in
     let rest = counts_sent m more (acted made (AddRow (plain_message m queue text))) in
-    record { number = omega (arith, first.number, second.number, rest.number); receipt = omega (arith, first.receipt, second.receipt, rest.receipt) }
+    record {
+      number = omega (arith, first.number, second.number, rest.number);
+      receipt = omega (arith, first.receipt, second.receipt, rest.receipt);
+    }
 counts_sent m (outputs.Blob container blob text ∷ more) part = counts_sent m more part
 
 -- behind an end, which gives none
 counts_ended : (m number : ℕ) (ending : Ending) (outputs : List Output) (part : QueuePart)
-    → Counted part (by_acts part (EndRows (Numbered number) ending ∷ sends m outputs)) (count_sent outputs) (count_sent outputs)
+    → Counted part (by_acts part (EndRows (Numbered number) ending ∷ sends m outputs)) (count_sent outputs)
+    (count_sent outputs)
 counts_ended m number ending outputs part =
     let one = counts part (EndRows (Numbered number) ending) in
     let rest = counts_sent m outputs (acted part (EndRows (Numbered number) ending)) in
     record { number = omega (arith, one.number, rest.number); receipt = omega (arith, one.receipt, rest.receipt) }
 
 counts_completed : (m invocation : ℕ) (message : Option HeldMessage) (outputs : List Output) (part : QueuePart)
-    → Counted part (by_acts part (end_job invocation message ++ sends m outputs)) (count_sent outputs) (count_sent outputs)
+    → Counted part (by_acts part (end_job invocation message ++ sends m outputs)) (count_sent outputs)
+    (count_sent outputs)
 counts_completed m invocation None outputs part = counts_sent m outputs part
-counts_completed m invocation (Some message) outputs part = counts_ended m message.number (Completed invocation) outputs part
+counts_completed m invocation (Some message) outputs part =
+    counts_ended m message.number (Completed invocation) outputs part
 
 pub length-taken_items : (receipt : ℕ) (rows : List Message) → length (taken_items receipt rows) ≡ length rows
 length-taken_items receipt [] = refl
@@ -93,15 +101,23 @@ length-taken_items receipt (row ∷ rows) = ap suc (length-taken_items (receipt 
 abbrev with_receipt : ℕ → List Item → ℕ
 with_receipt k items = count_by (λ item. item.receipt == k) items
 
-with_receipt-cons : (k : ℕ) (item : Item) (items : List Item) → with_receipt k (item ∷ items) ≡ (if item.receipt == k then 1 else 0) + with_receipt k items
+with_receipt-cons : (k : ℕ) (item : Item) (items : List Item)
+    → with_receipt k (item ∷ items) ≡ (if item.receipt == k then 1 else 0) + with_receipt k items
 with_receipt-cons k item items = sum_by-cons (λ (i : Item). cond (i.receipt == k) 1 0) item items
 
 -- what is taken has the next receipts, each once
-listed_in_turn : (k receipt : ℕ) (rows : List Message) → with_receipt k (taken_items receipt rows) ≡ (if nat_le receipt k && nat_lt k (receipt + length rows) then 1 else 0)
+listed_in_turn : (k receipt : ℕ) (rows : List Message)
+    → with_receipt k (taken_items receipt rows)
+    ≡ (if nat_le receipt k && nat_lt k (receipt + length rows) then 1 else 0)
 listed_in_turn k receipt [] = grind (arith, nat_tests)
 listed_in_turn k receipt (row ∷ rows) =
     let item : Item = record { number = row.number; receipt = receipt; count = row.count + 1; text = row.text } in
-    grind (arith, nat_tests, with_receipt-cons k item (taken_items (receipt + 1) rows), listed_in_turn k (receipt + 1) rows)
+    grind (
+      arith,
+      nat_tests,
+      with_receipt-cons k item (taken_items (receipt + 1) rows),
+      listed_in_turn k (receipt + 1) rows,
+    )
 
 length-renewed : (receipt : ℕ) (messages : List HeldMessage) → length (renewed receipt messages) ≡ length messages
 length-renewed receipt [] = refl
@@ -111,15 +127,23 @@ length-renewed receipt (message ∷ messages) = ap suc (length-renewed (receipt 
 abbrev held_with : ℕ → List HeldMessage → ℕ
 held_with k messages = count_by (λ message. message.receipt == k) messages
 
-held_with-cons : (k : ℕ) (message : HeldMessage) (messages : List HeldMessage) → held_with k (message ∷ messages) ≡ (if message.receipt == k then 1 else 0) + held_with k messages
+held_with-cons : (k : ℕ) (message : HeldMessage) (messages : List HeldMessage)
+    → held_with k (message ∷ messages) ≡ (if message.receipt == k then 1 else 0) + held_with k messages
 held_with-cons k message messages = sum_by-cons (λ (x : HeldMessage). cond (x.receipt == k) 1 0) message messages
 
 -- what is renewed has the next receipts, each once
-renewed_in_turn : (k receipt : ℕ) (messages : List HeldMessage) → held_with k (renewed receipt messages) ≡ (if nat_le receipt k && nat_lt k (receipt + length messages) then 1 else 0)
+renewed_in_turn : (k receipt : ℕ) (messages : List HeldMessage)
+    → held_with k (renewed receipt messages)
+    ≡ (if nat_le receipt k && nat_lt k (receipt + length messages) then 1 else 0)
 renewed_in_turn k receipt [] = grind (arith, nat_tests)
 renewed_in_turn k receipt (message ∷ messages) =
     let first : HeldMessage = record { number = message.number; receipt = receipt } in
-    grind (arith, nat_tests, held_with-cons k first (renewed (receipt + 1) messages), renewed_in_turn k (receipt + 1) messages)
+    grind (
+      arith,
+      nat_tests,
+      held_with-cons k first (renewed (receipt + 1) messages),
+      renewed_in_turn k (receipt + 1) messages,
+    )
 
 -- the answer gives the numbers and receipts by which the counters moved
 pub record IsGiven (part : QueuePart) (ask : Ask) (later : QueuePart) (answer : QueueDone) : Type 0 where
@@ -134,19 +158,24 @@ module _ (part : QueuePart) (m : ℕ) where
   abbrev pub swept : QueuePart
   swept = acted part (sweep m)
 
-  moved : (numbers receipts : ℕ) (later : QueuePart) → Counted swept later numbers receipts → Counted part later numbers receipts
+  moved : (numbers receipts : ℕ) (later : QueuePart) → Counted swept later numbers receipts
+      → Counted part later numbers receipts
   moved numbers receipts later counted =
-      let same = counters-sweep part m in record { number = omega (arith, counted.number, same.0); receipt = omega (arith, counted.receipt, same.1) }
+      let same = counters-sweep part m in
+      record { number = omega (arith, counted.number, same.0); receipt = omega (arith, counted.receipt, same.1) }
 
-  gives : (ask : Ask) (numbers receipts : ℕ) (later : QueuePart) (answer : QueueDone) → Counted swept later numbers receipts → numbers ≤ most_numbers ask → receipts ≤ most_receipts ask
+  gives : (ask : Ask) (numbers receipts : ℕ) (later : QueuePart) (answer : QueueDone)
+      → Counted swept later numbers receipts → numbers ≤ most_numbers ask → receipts ≤ most_receipts ask
       → ((n : ℕ) → born n answer ≡ (nat_le part.next_number n && nat_lt n (part.next_number + numbers)))
-      → ((k : ℕ) → given k answer ≡ (if nat_le part.next_receipt k && nat_lt k (part.next_receipt + receipts) then 1 else 0))
+      → ((k : ℕ) → given k answer
+      ≡ (if nat_le part.next_receipt k && nat_lt k (part.next_receipt + receipts) then 1 else 0))
       → IsGiven part ask later answer
   gives ask numbers receipts later answer counted one few born_is given_is =
       let by = moved numbers receipts later counted in
       record {
         number = λ n. born_is n ∙ ap (λ k. nat_le part.next_number n && nat_lt n k) (sym by.number);
-        receipt = λ k. given_is k ∙ ap (λ j. if nat_le part.next_receipt k && nat_lt k j then 1 else 0) (sym by.receipt);
+        receipt = λ k. given_is k
+            ∙ ap (λ j. if nat_le part.next_receipt k && nat_lt k j then 1 else 0) (sym by.receipt);
         numbers = omega (arith, by.number);
         receipts = omega (arith, by.receipt);
         one = omega (arith, by.number, one);
@@ -159,30 +188,46 @@ module _ (part : QueuePart) (m : ℕ) where
   zero_times : (k next : ℕ) → ◌≡◌ {A = ℕ} 0 (if nat_le next k && nat_lt k (next + 0) then 1 else 0)
   zero_times k next = ap (λ b. if b then 1 else 0) (none k next)
 
-  just_once : (k next : ℕ) → ◌≡◌ {A = ℕ} (if next == k then 1 else 0) (if nat_le next k && nat_lt k (next + 1) then 1 else 0)
+  just_once : (k next : ℕ)
+      → ◌≡◌ {A = ℕ} (if next == k then 1 else 0) (if nat_le next k && nat_lt k (next + 1) then 1 else 0)
   just_once k next = grind (arith, nat_tests)
 
   pub givings : Ways (λ ask acts answer. IsGiven part ask (by_acts swept acts) answer) part m
   givings = record {
-    makes = λ queue. gives (Make queue) 0 0 _ _ (counts swept (AddQueue queue)) (omega arith) (omega arith) (λ n. none n part.next_number) (λ k. zero_times k part.next_receipt);
-    puts = λ queue delay ttl text about short. gives (Put queue delay ttl text about) 1 1 _ _ (counts swept (AddRow _)) (omega arith) (omega arith) (λ n. grind (arith, nat_tests)) (λ k. just_once k part.next_receipt);
+    makes = λ queue. gives (Make queue) 0 0 _ _ (counts swept (AddQueue queue)) (omega arith) (omega arith)
+        (λ n. none n part.next_number) (λ k. zero_times k part.next_receipt);
+    puts = λ queue delay ttl text about short. gives (Put queue delay ttl text about) 1 1 _ _ (counts swept (AddRow _))
+        (omega arith) (omega arith) (λ n. grind (arith, nat_tests)) (λ k. just_once k part.next_receipt);
     takes = λ queue count seconds less.
         let rows = chosen part m queue count in
         let items = listed part m queue count in
         let long : length items ≡ length rows = length-taken_items part.next_receipt rows in
-        gives (Take queue count seconds) 0 (length items) _ _ (counts_held (after m seconds) items swept) (omega arith) (omega (arith, long, less, length-take count (visible queue m part.rows)))
+        gives (Take queue count seconds) 0 (length items) _ _ (counts_held (after m seconds) items swept) (omega arith)
+        (omega (arith, long, less, length-take count (visible queue m part.rows)))
         (λ n. none n part.next_number)
-        (λ k. listed_in_turn k part.next_receipt rows ∙ ap (λ l. if nat_le part.next_receipt k && nat_lt k (part.next_receipt + l) then 1 else 0) (sym long));
-    updates = λ queue number receipt seconds text short named. gives (Update queue number receipt seconds text) 0 1 _ _ (counts swept (ChangeRow number _)) (omega arith) (omega arith) (λ n. none n part.next_number) (λ k. just_once k part.next_receipt);
-    deletes = λ queue number receipt named. gives (Delete queue number receipt) 0 0 _ _ (counts swept (EndRows _ _)) (omega arith) (omega arith) (λ n. none n part.next_number) (λ k. zero_times k part.next_receipt);
-    clears = λ queue. gives (Clear queue) 0 0 _ _ (counts swept (EndRows _ _)) (omega arith) (omega arith) (λ n. none n part.next_number) (λ k. zero_times k part.next_receipt);
-    releases = λ message delay held. gives (Release message delay) 0 1 _ _ (counts swept (ChangeRow message.number _)) (omega arith) (omega arith) (λ n. none n part.next_number) (λ k. just_once k part.next_receipt);
+        (λ k. listed_in_turn k part.next_receipt rows
+        ∙ ap (λ l. if nat_le part.next_receipt k && nat_lt k (part.next_receipt + l) then 1 else 0) (sym long));
+    updates = λ queue number receipt seconds text short named. gives (Update queue number receipt seconds text) 0 1 _ _
+        (counts swept (ChangeRow number _)) (omega arith) (omega arith) (λ n. none n part.next_number)
+        (λ k. just_once k part.next_receipt);
+    deletes = λ queue number receipt named. gives (Delete queue number receipt) 0 0 _ _ (counts swept (EndRows _ _))
+        (omega arith) (omega arith) (λ n. none n part.next_number) (λ k. zero_times k part.next_receipt);
+    clears = λ queue. gives (Clear queue) 0 0 _ _ (counts swept (EndRows _ _)) (omega arith) (omega arith)
+        (λ n. none n part.next_number) (λ k. zero_times k part.next_receipt);
+    releases = λ message delay held. gives (Release message delay) 0 1 _ _ (counts swept (ChangeRow message.number _))
+        (omega arith) (omega arith) (λ n. none n part.next_number) (λ k. just_once k part.next_receipt);
     renews = λ messages seconds held.
-        gives (Renew messages seconds) 0 (length messages) _ _ (counts_renewed (after m seconds) messages swept) (omega arith) (omega arith) (λ n. none n part.next_number) (λ k. renewed_in_turn k part.next_receipt messages);
+        gives (Renew messages seconds) 0 (length messages) _ _ (counts_renewed (after m seconds) messages swept)
+        (omega arith) (omega arith) (λ n. none n part.next_number)
+        (λ k. renewed_in_turn k part.next_receipt messages);
     completes = λ invocation message outputs job short.
-        gives (Complete invocation message outputs) (count_sent outputs) (count_sent outputs) _ _ (counts_completed m invocation message outputs swept) (omega arith) (omega arith) (λ n. refl) (λ k. refl);
+        gives (Complete invocation message outputs) (count_sent outputs) (count_sent outputs) _ _
+        (counts_completed m invocation message outputs swept) (omega arith) (omega arith) (λ n. refl) (λ k. refl);
     poisons = λ message queue held.
         let text = text_of (live_row message.number m part.rows) in
-        gives (Poison message queue) 1 1 _ _ (counts_ended m message.number (Moved part.next_number) (outputs.Queue queue text ∷ []) swept) (omega arith) (omega arith) (λ n. grind (arith, nat_tests)) (λ k. just_once k part.next_receipt);
-    sweeps = gives Sweep 0 0 swept _ (record { number = omega arith; receipt = omega arith }) (omega arith) (omega arith) (λ n. none n part.next_number) (λ k. zero_times k part.next_receipt);
+        gives (Poison message queue) 1 1 _ _
+        (counts_ended m message.number (Moved part.next_number) (outputs.Queue queue text ∷ []) swept) (omega arith)
+        (omega arith) (λ n. grind (arith, nat_tests)) (λ k. just_once k part.next_receipt);
+    sweeps = gives Sweep 0 0 swept _ (record { number = omega arith; receipt = omega arith }) (omega arith)
+        (omega arith) (λ n. none n part.next_number) (λ k. zero_times k part.next_receipt);
   }

@@ -1,8 +1,7 @@
 -- A message has a place exactly where its number was given.
-use Rattle.std.proofs.Common.{◌≡◌, ℕ, ◌≤◌, ◌<◌, Bool, true, false, not, Option, Some, None, is_some, refl, sym, ◌∙◌, ap, arith}
+use Rattle.std.proofs.Common.{◌≡◌, ℕ, ◌≤◌, ◌<◌, Bool, true, false, not, Option, Some, None, is_some, refl, ◌∙◌, ap, arith}
 use Rattle.std.specs.Prelude.{◌&&◌, nat_le, nat_lt, if◌then◌else◌}
 use Rattle.std.proofs.lemmas.Bool.Decides.{nat_tests}
-use Rattle.fh_event.specs.declared.reply.Place.{Place}
 use Rattle.fh_event.specs.declared.reply.Place.TheVariants as place
 use Rattle.fh_queues.specs.declared.row.Message.{Message}
 use Rattle.fh_queues.specs.declared.done.Ending.{Ending}
@@ -10,7 +9,7 @@ use Rattle.fh_queues.specs.declared.done.Ending.TheVariants.{Deleted, Completed,
 use Rattle.fh_queues.specs.Rows.{row_of, is_live}
 use Rattle.fh_queues.specs.Part.{QueuePart, end_of}
 use Rattle.fh_queues.specs.Seen.{Seen, Unborn, Stands, Ended, seen_by, seen}
-use Rattle.fh_queues.specs.Places.{place_of_live, place_by}
+use Rattle.fh_queues.specs.Places.{place_by}
 use Rattle.fh_queues.specs.Whole.{IsWhole}
 use Rattle.fh_queues.specs.Laws.{IsKnownByNumber}
 use Rattle.fh_queues.proofs.Whole.{seen-new, seen-zero}

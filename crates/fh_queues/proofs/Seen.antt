@@ -1,5 +1,5 @@
 -- Where a message is, as acts are done.
-use Rattle.std.proofs.Common.{◌≡◌, ℕ, ◌+◌, Bool, true, false, List, ◌∷◌, [], ◌++◌, length, Option, Some, None, filter, refl, sym, ◌∙◌, ap, arith}
+use Rattle.std.proofs.Common.{◌≡◌, ℕ, Bool, true, false, length, Option, Some, None, filter, refl, ◌∙◌, ap}
 use Rattle.std.specs.Prelude.{◌==◌, if◌then◌else◌, is_some, not, option_map}
 use Rattle.std.specs.List.{list_all, list_any}
 use Rattle.fh_queues.specs.declared.row.Message.{Message}

@@ -1,7 +1,6 @@
 -- What a take lists are visible messages of its queue.
-use Rattle.std.proofs.Common.{◌≡◌, ℕ, zero, suc, ◌+◌, ◌≤◌, ◌<◌, Bool, true, false, List, [], ◌∷◌, take, Option, Some, None, refl, sym, ◌∙◌, ap, subst, arith}
-use Rattle.std.specs.Prelude.{◌==◌, ◌&&◌, nat_le, nat_lt, if◌then◌else◌, filter}
-use Rattle.std.specs.List.{list_all}
+use Rattle.std.proofs.Common.{◌≡◌, ℕ, zero, suc, ◌+◌, ◌≤◌, Bool, true, false, List, [], ◌∷◌, take, Option, Some, None, refl, sym, ◌∙◌, ap, subst, arith}
+use Rattle.std.specs.Prelude.{◌==◌, if◌then◌else◌}
 use Rattle.std.proofs.lemmas.Bool.Decides.{nat_tests}
 use Rattle.fh_event.specs.declared.reply.Item.{Item}
 use Rattle.fh_queues.specs.declared.row.Message.{Message}
@@ -10,7 +9,6 @@ use Rattle.fh_queues.specs.Order.{are_rising}
 use Rattle.fh_queues.specs.Part.{QueuePart}
 use Rattle.fh_queues.specs.Outcome.{taken_items}
 use Rattle.fh_queues.specs.Receipts.{item_of}
-use Rattle.fh_queues.specs.Whole.{IsWhole}
 use Rattle.fh_queues.specs.Laws.{IsTakenFrom}
 use Rattle.fh_queues.proofs.Finding.{all_row_of, all_pass, row_of-filter, keep_if}
 use Rattle.fh_queues.proofs.Ways.{chosen, listed}

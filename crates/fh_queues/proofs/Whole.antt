@@ -1,7 +1,7 @@
 -- Each act keeps the queues whole.
-use Rattle.std.proofs.Common.{◌≡◌, ℕ, ◌+◌, ◌≤◌, ◌<◌, Bool, true, false, List, [], ◌∷◌, ◌++◌, length, Option, Some, None, filter, refl, sym, ◌∙◌, ap, arith, length-append}
+use Rattle.std.proofs.Common.{◌≡◌, ℕ, ◌+◌, ◌≤◌, Bool, true, false, List, [], ◌∷◌, length, Option, Some, None, filter, refl, sym, ◌∙◌, ap, arith, length-append}
 use Rattle.std.specs.Prelude.{◌==◌, ◌&&◌, nat_le, nat_lt, if◌then◌else◌, is_some, not, option_map}
-use Rattle.std.specs.List.{list_all, list_any}
+use Rattle.std.specs.List.{list_all}
 use Rattle.std.proofs.lemmas.Bool.Decides.{nat_tests}
 use Rattle.fh_queues.specs.declared.row.Message.{Message}
 use Rattle.fh_queues.specs.declared.done.Ending.{Ending}
@@ -13,7 +13,7 @@ use Rattle.fh_queues.specs.declared.act.Act.TheVariants.{AddQueue, AddRow, Chang
 use Rattle.fh_queues.specs.Rows.{row_of}
 use Rattle.fh_queues.specs.Part.{QueuePart, no_queues, end_of}
 use Rattle.fh_queues.specs.Acts.{numbered, count_or, changed, is_one, with_queue, with_row, with_row_change, with_ends, acted, by_acts}
-use Rattle.fh_queues.specs.Seen.{Seen, Unborn, seen_by, seen}
+use Rattle.fh_queues.specs.Seen.{Unborn, seen_by, seen}
 use Rattle.fh_queues.specs.Whole.{is_counted, IsWhole}
 use Rattle.fh_queues.proofs.Finding.{keep_if, row_of-number, row_of-above, all_row_of, any-row_of, row_of-filter, row_of-with_change, row_of-push, list_all-filter, list_all-push, list_all-weaker, list_all-with_change, are_rising-filter, are_rising-push, are_rising-with_change, all_positive}
 use Rattle.fh_queues.proofs.Naming.{in_order-with_name}

@@ -27,7 +27,8 @@ held_by until (Some item) row = changed item.receipt (held_as until item) row
 abbrev pub held_again : ℕ → List HeldMessage → Message → Message
 held_again until [] row = row
 held_again until (message ∷ messages) row =
-    held_again until messages (if row.number == message.number then changed message.receipt (held_on until) row else row)
+    held_again until messages
+    (if row.number == message.number then changed message.receipt (held_on until) row else row)
 
 -- the row afterwards: a take holds what it lists, an update and a renewal hold what they name, a release frees what it
 -- names, and nothing else changes a row

@@ -111,7 +111,8 @@ live_beside part m (Some message) = length (live m part.rows) - 1
 -- at most 100,000 messages are live with those that are sent
 abbrev pub room_rule : QueuePart → ℕ → Option HeldMessage → List Output → Option Rule
 room_rule part m message outputs =
-    if nat_lt 100000 (live_beside part m message + count_sent outputs) then Some (StoreFull (live_beside part m message))
+    if nat_lt 100000 (live_beside part m message + count_sent outputs)
+    then Some (StoreFull (live_beside part m message))
     else None
 
 abbrev pub complete_rule : QueuePart → ℕ → Option HeldMessage → List Output → Option Rule

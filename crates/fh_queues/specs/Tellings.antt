@@ -8,7 +8,7 @@ use Rattle.fh_queues.specs.declared.row.Message.{Message}
 use Rattle.fh_queues.specs.declared.done.QueueDone.{QueueDone}
 use Rattle.fh_queues.specs.declared.done.QueueDone.TheVariants as done
 use Rattle.fh_queues.specs.declared.done.Ending.{Ending}
-use Rattle.fh_queues.specs.declared.done.Ending.TheVariants.{Deleted, Completed, Moved, Expired}
+use Rattle.fh_queues.specs.declared.done.Ending.TheVariants.{Deleted, Completed, Moved}
 use Rattle.fh_queues.specs.Asks.{Ask, Put, Take, Update, Delete, Clear, Release, Renew, Complete, Poison}
 use Rattle.fh_queues.specs.Rows.{is_live, row_in, row_of}
 use Rattle.fh_queues.specs.Part.{QueuePart}
@@ -66,7 +66,8 @@ abbrev pub hold_given : ℕ → ℕ → Ask → QueueDone → Hold
 hold_given n m (Take queue count hold) answer = held_if (lists n (items_in answer)) (after m hold)
 hold_given n m (Update queue number receipt hold text) answer = held_if (number == n) (after m hold)
 hold_given n m (Release message delay) answer = freed_if (message.number == n)
-hold_given n m (Renew messages hold) answer = held_if (list_any (λ message. message.number == n) messages) (after m hold)
+hold_given n m (Renew messages hold) answer =
+    held_if (list_any (λ message. message.number == n) messages) (after m hold)
 hold_given n m ask answer = Untold
 
 -- a delete or a completion names the message, or a clear finds it live in its queue
@@ -121,7 +122,8 @@ pub record IsPassedOver (part : QueuePart) (n m : ℕ) (ask : Ask) (answer : Que
 
 -- only a message with a live row is held, freed, removed or moved, a new one has what was given, and a row goes on or
 -- goes as is told
-pub record TellsOfMessages (part : QueuePart) (m : ℕ) (ask : Ask) (after : QueuePart) (answer : QueueDone) : Type 0 where
+pub record TellsOfMessages (part : QueuePart) (m : ℕ) (ask : Ask) (after : QueuePart)
+    (answer : QueueDone) : Type 0 where
   pub none : (n : ℕ) → row_of n part.rows ≡ None → IsPassedOver part n m ask answer
   pub new : (n : ℕ) → IsUntold part n m ask answer ⊎ ((row : Message) × IsNew part n m ask answer row)
   pub same :

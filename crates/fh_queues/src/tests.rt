@@ -9,6 +9,7 @@ use std::process::Abort;
 use std::test::Fail;
 
 mod index;
+mod jobs;
 
 const LAST_MOMENT: u64 = 253402300799999;
 
@@ -154,13 +155,11 @@ fn reply_of(done: QueueDone) -> Option<Reply> {
         QueueDone::Updated { receipt } => Some(Reply::Updated { receipt }),
         QueueDone::Deleted => Some(Reply::Deleted),
         QueueDone::Cleared { count } => Some(Reply::Cleared { count }),
-        QueueDone::Released { visible_at, .. } => Some(Reply::Acquired { until: visible_at }),
-        QueueDone::Completed { number, .. } => Some(Reply::Noted { number }),
-        QueueDone::Poisoned { copy, receipt } => Some(Reply::Stored {
-            number: copy,
-            receipt,
-        }),
-        QueueDone::Renewed { .. } | QueueDone::Swept => None,
+        QueueDone::Released { .. }
+        | QueueDone::Renewed { .. }
+        | QueueDone::Completed { .. }
+        | QueueDone::Poisoned { .. }
+        | QueueDone::Swept => None,
     }
 }
 

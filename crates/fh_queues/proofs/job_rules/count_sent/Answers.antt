@@ -1,4 +1,4 @@
-use Rattle.std.proofs.Common.{arith, ◌≡◌, ◌+◌, ◌++◌, ◌∷◌, [], take, sym, ap, ◌∙◌}
+use Rattle.std.proofs.Common.{arith, ◌≡◌, ◌+◌, ◌++◌, ◌∷◌, [], take, ap}
 use Rattle.std.proofs.lemmas.Grind.{common_steps}
 use Rattle.fh_queues.specs.Jobs.{count_sent}
 use Rattle.fh_queues.proofs.Sending.{count_sent-push}
@@ -11,6 +11,12 @@ loop-output-preserved c =
     let at = c.loop-output.output-index in
     let more : take (at + 1) outputs ≡ take at outputs ++ c.output-item.result ∷ [] = grind (arith, common_steps) in
     record {
-      count = omega (arith, had.count, c.sent_by-count.ensures.count, ap count_sent more, count_sent-push (take at outputs) c.output-item.result);
+      count = omega (
+        arith,
+        had.count,
+        c.sent_by-count.ensures.count,
+        ap count_sent more,
+        count_sent-push (take at outputs) c.output-item.result,
+      );
       few = omega (arith, had.few, c.sent_by-count.ensures.few);
     }

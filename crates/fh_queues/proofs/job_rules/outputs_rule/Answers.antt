@@ -1,4 +1,4 @@
-use Rattle.std.proofs.Common.{arith, ◌≡◌, ◌+◌, ◌++◌, ◌∷◌, [], Some, None, take, drop, sym, ap, ◌∙◌}
+use Rattle.std.proofs.Common.{arith, ◌≡◌, ◌+◌, ◌++◌, ◌∷◌, [], Some, take, drop, sym, ap, ◌∙◌}
 use Rattle.std.proofs.lemmas.Grind.{common_steps}
 use Rattle.std.proofs.lemmas.List.{take-append-drop}
 use Rattle.fh_queues.specs.Rules.{output_rule, outputs_rule}
@@ -11,12 +11,15 @@ returns-in-Some c =
     let at = c.loop-output.output-index in
     let more : take (at + 1) outputs ≡ take at outputs ++ c.output-item.result ∷ [] = grind (arith, common_steps) in
     let broken : outputs_rule (take (at + 1) outputs) ≡ Some c.in-Some.rule =
-    ap outputs_rule more ∙ broken-push output_rule (take at outputs) c.output-item.result c.loop-output.invariant ∙ sym c.output_rule.ensures ∙ c.in-Some.is in
-    sym (broken-more output_rule (take (at + 1) outputs) (drop (at + 1) outputs) c.in-Some.rule broken) ∙ ap outputs_rule (take-append-drop (at + 1) outputs)
+    ap outputs_rule more ∙ broken-push output_rule (take at outputs) c.output-item.result c.loop-output.invariant
+    ∙ sym c.output_rule.ensures ∙ c.in-Some.is in
+    sym (broken-more output_rule (take (at + 1) outputs) (drop (at + 1) outputs) c.in-Some.rule broken)
+    ∙ ap outputs_rule (take-append-drop (at + 1) outputs)
 
 pub loop-output-preserved : goal.loop-output-preserved
 loop-output-preserved c =
     let outputs = c.args.outputs.now in
     let at = c.loop-output.output-index in
     let more : take (at + 1) outputs ≡ take at outputs ++ c.output-item.result ∷ [] = grind (arith, common_steps) in
-    ap outputs_rule more ∙ broken-push output_rule (take at outputs) c.output-item.result c.loop-output.invariant ∙ sym c.output_rule.ensures ∙ c.in_default.is
+    ap outputs_rule more ∙ broken-push output_rule (take at outputs) c.output-item.result c.loop-output.invariant
+    ∙ sym c.output_rule.ensures ∙ c.in_default.is

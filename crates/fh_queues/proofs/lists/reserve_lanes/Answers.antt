@@ -1,4 +1,4 @@
-use Rattle.std.proofs.Common.{arith, ◌≡◌, ◌+◌, ◌++◌, ◌∷◌, [], List, length, take, sym, ap, ◌∙◌, subst}
+use Rattle.std.proofs.Common.{arith, ◌≡◌, ◌+◌, ◌++◌, ◌∷◌, [], List, length, take, sym, subst}
 use Rattle.std.proofs.lemmas.Grind.{common_steps}
 use Rattle.fh_queues.specs.declared.act.Act.{Act}
 use Rattle.fh_queues.specs.Lists.{AreReady}

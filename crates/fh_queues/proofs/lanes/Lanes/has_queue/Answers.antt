@@ -1,5 +1,5 @@
-use Rattle.std.proofs.Common.{◌≡◌, arith, sym, ap, ◌∙◌, subst, List}
-use Rattle.std.specs.Prelude.{Ok, Err, Result}
+use Rattle.std.proofs.Common.{◌≡◌, sym, ap, ◌∙◌, subst, List}
+use Rattle.std.specs.Prelude.{Ok}
 use Rattle.std.proofs.lemmas.List.{get_or_read}
 use Rattle.fh_queues.specs.Part.{has_queue}
 use Rattle.fh_queues.specs.Lanes.{LaneValue, no_lane, queues_of, IsSought}

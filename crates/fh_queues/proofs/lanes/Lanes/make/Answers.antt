@@ -1,10 +1,5 @@
-use Rattle.std.proofs.Common.{rules, ◌≡◌, ℕ, ◌+◌, ◌-◌, ◌<◌, ◌≤◌, true, false, List, [], ◌∷◌, length, map, Bool, refl, arith, sym, ap, ◌∙◌, subst}
-use Rattle.std.specs.Prelude.{Ok, Err, Result, set, get_or, slice_index}
-use Rattle.std.specs.List.{insert}
-use Rattle.std.specs.Str.{bytes_eq}
-use Rattle.std.proofs.lemmas.Grind.{common_steps}
-use Rattle.fh_queues.specs.Order.{are_in_order, with_name}
-use Rattle.fh_queues.specs.Lanes.{LaneValue, no_lane, name_of, lane_of, queues_of, IsSought, IsNextIn, GrowsLane, Grows, SameKeys, IsReady, KeepsKeys}
+use Rattle.std.proofs.Common.{◌≡◌, arith, ap, subst}
+use Rattle.fh_queues.specs.Lanes.{LaneValue, no_lane, name_of, lane_of, IsReady}
 use Rattle.fh_queues.proofs.Laning.{Finds, lane_of-none, set-order, set-make, set-same_keys}
 use Rattle.fh_queues.proofs.lanes.Lanes.make.Goals as goal
 

@@ -1,11 +1,9 @@
-use Rattle.std.proofs.Common.{rules, ◌≡◌, ℕ, ◌+◌, ◌-◌, ◌<◌, ◌≤◌, true, false, List, [], ◌∷◌, length, map, Bool, refl, arith, sym, ap, ◌∙◌, subst}
-use Rattle.std.specs.Prelude.{Ok, Err, Result, set, get_or, slice_index}
+use Rattle.std.proofs.Common.{◌≡◌, List, map, sym, ap, ◌∙◌, subst}
+use Rattle.std.specs.Prelude.{Err}
 use Rattle.std.specs.List.{insert}
-use Rattle.std.specs.Str.{bytes_eq}
-use Rattle.std.proofs.lemmas.Grind.{common_steps}
-use Rattle.fh_queues.specs.Order.{are_in_order, with_name}
-use Rattle.fh_queues.specs.Lanes.{LaneValue, no_lane, name_of, lane_of, queues_of, IsSought, IsNextIn, GrowsLane, Grows, SameKeys, IsReady, KeepsKeys}
-use Rattle.fh_queues.proofs.Laning.{Finds, found-lane, set-lane, set-grows, set-order, insert-grows, lane_of-insert, in_order-insert}
+use Rattle.fh_queues.specs.Order.{are_in_order}
+use Rattle.fh_queues.specs.Lanes.{LaneValue, name_of, lane_of, IsSought, Grows}
+use Rattle.fh_queues.proofs.Laning.{Finds, set-lane, set-grows, set-order, insert-grows, lane_of-insert, in_order-insert}
 use Rattle.fh_queues.proofs.lanes.Lanes.reserve.Goals as goal
 
 pub invariant_of-self : goal.invariant_of-self

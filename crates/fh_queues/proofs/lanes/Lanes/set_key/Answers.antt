@@ -1,10 +1,6 @@
-use Rattle.std.proofs.Common.{rules, ◌≡◌, ℕ, ◌+◌, ◌-◌, ◌<◌, ◌≤◌, true, false, List, [], ◌∷◌, length, map, Bool, refl, arith, sym, ap, ◌∙◌, subst}
-use Rattle.std.specs.Prelude.{Ok, Err, Result, set, get_or, slice_index}
-use Rattle.std.specs.List.{insert}
-use Rattle.std.specs.Str.{bytes_eq}
-use Rattle.std.proofs.lemmas.Grind.{common_steps}
-use Rattle.fh_queues.specs.Order.{are_in_order, with_name}
-use Rattle.fh_queues.specs.Lanes.{LaneValue, no_lane, name_of, lane_of, queues_of, IsSought, IsNextIn, GrowsLane, Grows, SameKeys, IsReady, KeepsKeys}
+use Rattle.std.proofs.Common.{◌≡◌, ◌<◌, length, arith, sym, ap, ◌∙◌, subst}
+use Rattle.std.specs.Prelude.{set}
+use Rattle.fh_queues.specs.Lanes.{LaneValue, no_lane, name_of, lane_of}
 use Rattle.fh_queues.proofs.Laning.{Finds, found-lane, lane_of-none, set-lane, set-other, set-order, set-queues}
 use Rattle.fh_queues.proofs.lanes.Lanes.set_key.Goals as goal
 

@@ -1,8 +1,8 @@
-use Rattle.std.proofs.Common.{◌≡◌, ◌+◌, ◌∷◌, [], List, ℕ, length, ap, arith, ◌∙◌, sym, subst}
+use Rattle.std.proofs.Common.{◌≡◌, ◌+◌, ◌∷◌, List, ℕ, length, ap, arith, ◌∙◌, sym, subst}
 use Rattle.std.specs.Vec.Iter.{into_iter_items}
 use Rattle.fh_queues.specs.declared.act.Act.{Act}
 use Rattle.fh_queues.specs.Acts.{by_acts}
-use Rattle.fh_queues.specs.Lists.{part_of, Fits, HasRoom, AreReady}
+use Rattle.fh_queues.specs.Lists.{part_of, AreReady}
 use Rattle.fh_queues.proofs.Keeping.{all_ready-act, ready-one}
 use Rattle.fh_queues.proofs.lists.Lists.act_all.Goals as goal
 

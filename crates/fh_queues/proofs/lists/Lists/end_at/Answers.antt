@@ -1,12 +1,10 @@
-use Rattle.std.proofs.Common.{arith, ◌≡◌, ◌+◌, ◌<◌, ◌≤◌, ℕ, List, true, length, sym, ap, ◌∙◌, subst}
-use Rattle.std.specs.Prelude.{set, get_or, if◌then◌else◌}
-use Rattle.std.proofs.lemmas.Grind.{common_steps}
+use Rattle.std.proofs.Common.{arith, ◌≡◌, ℕ, List, length, ap, ◌∙◌}
+use Rattle.std.specs.Prelude.{set, get_or}
 use Rattle.std.proofs.lemmas.List.{get_or_read, get_or-set_other, length-set}
 use Rattle.fh_queues.specs.declared.done.Ending.TheVariants.{Expired}
-use Rattle.fh_queues.specs.declared.slot.Slot.{Slot}
 use Rattle.fh_queues.specs.declared.slot.Slot.TheVariants.{Row, Ended}
 use Rattle.fh_queues.specs.Lanes.{LaneValue, lane_of}
-use Rattle.fh_queues.specs.Index.{kept, slot_at, IsIndexed}
+use Rattle.fh_queues.specs.Index.{slot_at}
 use Rattle.fh_queues.proofs.Slots.{fewer-at}
 use Rattle.fh_queues.proofs.Indexes.{indexed-change}
 use Rattle.fh_queues.proofs.lists.Lists.end_at.Goals as goal

@@ -1,4 +1,4 @@
-use Rattle.std.proofs.Common.{arith, ◌≡◌, ◌≤◌, ◌+◌, List, ap, ◌∙◌, length, sym, subst}
+use Rattle.std.proofs.Common.{arith, ◌+◌, List, length, sym, subst}
 use Rattle.fh_queues.specs.declared.act.Which.{Which}
 use Rattle.fh_queues.specs.declared.slot.Slot.{Slot}
 use Rattle.fh_queues.specs.Acts.{is_one}

@@ -1,4 +1,4 @@
-use Rattle.std.proofs.Common.{◌≡◌, ◌≤◌, ◌-◌, length}
+use Rattle.std.proofs.Common.{◌≤◌, ◌-◌, length}
 use Rattle.fh_queues.specs.Acts.{is_one}
 use Rattle.fh_queues.specs.Lanes.{lane_of}
 use Rattle.fh_queues.specs.Lists.{IsSound, Stays}

@@ -1,6 +1,6 @@
-use Rattle.std.proofs.Common.{arith, ◌≡◌, ◌≤◌, ◌+◌, ◌++◌, ap, ◌∙◌, length, sym, length-append}
-use Rattle.fh_queues.specs.Rows.{is_dead, live}
-use Rattle.fh_queues.specs.Index.{kept, slot_at, Skips}
+use Rattle.std.proofs.Common.{arith, ◌≤◌, ap, length, length-append}
+use Rattle.fh_queues.specs.Rows.{is_dead}
+use Rattle.fh_queues.specs.Index.{slot_at, Skips}
 use Rattle.fh_queues.proofs.Walks.{passed, passing, passed-step, passing-le, live-rest}
 use Rattle.fh_queues.proofs.Indexes.{skips_due}
 use Rattle.fh_queues.proofs.lists.Lists.live.Goals as goal

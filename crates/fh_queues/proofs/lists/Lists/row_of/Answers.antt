@@ -1,22 +1,10 @@
-use Rattle.std.proofs.Common.{arith, ◌≡◌, ◌+◌, ◌-◌, ◌<◌, ◌≤◌, ◌++◌, ◌∷◌, [], ℕ, List, Bool, true, false, refl, length, map, take, filter, fold, sym, ap, ◌∙◌, subst, length-append, cond}
-use Rattle.std.specs.Prelude.{set, get_or, slice_index, not, Option, Some, None, option_copied, option_to_list}
-use Rattle.std.proofs.lemmas.Grind.{common_steps}
-use Rattle.std.proofs.lemmas.List.{get_or_read, get_or-set_same, get_or-set_other, length-set, length_push, length-map, set-get_or}
-use Rattle.fh_queues.specs.declared.row.Message.{Message}
+use Rattle.std.proofs.Common.{arith, ◌≡◌, sym}
+use Rattle.std.proofs.lemmas.List.{get_or_read}
 use Rattle.fh_queues.specs.declared.done.Ending.TheVariants.{Expired}
-use Rattle.fh_queues.specs.declared.slot.Slot.{Slot}
 use Rattle.fh_queues.specs.declared.slot.Slot.TheVariants.{Row, Ended}
-use Rattle.fh_queues.specs.declared.act.Which.{Which}
-use Rattle.fh_queues.specs.Rows.{is_visible, visible, live, is_live, is_of, row_of}
-use Rattle.fh_queues.specs.Acts.{is_one, changed, with_end, numbered}
-use Rattle.fh_queues.specs.Lanes.{LaneValue, lane_of, queues_of, IsReady, KeepsKeys}
-use Rattle.fh_queues.specs.Index.{kept, ends_of, slot_at, live_of, ended_slot, Skips, IsIndexed, IsNoLater}
-use Rattle.fh_queues.specs.Lists.{part_of, Stays}
+use Rattle.fh_queues.specs.Index.{slot_at}
 use Rattle.fh_queues.proofs.Indexes as indexes
 use Rattle.fh_queues.proofs.Slots as rows_at
-use Rattle.fh_queues.proofs.Walks.{passed, passing, passed-step, passed-end, passed-full, passing-le, chosen-all, live-rest}
-use Rattle.fh_queues.proofs.Sweeps.{Sweeps, sweeps-start, sweeps-skip, sweeps-one, sweeps-end}
-use Rattle.fh_queues.proofs.Keeping as keeping
 use Rattle.fh_queues.proofs.lists.Lists.row_of.Goals as goal
 
 pub returns-in_default : goal.returns-in_default

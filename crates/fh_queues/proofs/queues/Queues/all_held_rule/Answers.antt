@@ -1,4 +1,4 @@
-use Rattle.std.proofs.Common.{arith, ◌≡◌, ◌+◌, ◌++◌, ◌∷◌, [], List, Some, None, map, take, drop, sym, ap, ◌∙◌}
+use Rattle.std.proofs.Common.{arith, ◌≡◌, ◌+◌, ◌++◌, ◌∷◌, [], List, Some, map, take, drop, sym, ap, ◌∙◌}
 use Rattle.std.specs.Prelude.{Option, get_or}
 use Rattle.std.proofs.lemmas.Grind.{common_steps}
 use Rattle.std.proofs.lemmas.List.{take-append-drop}
@@ -16,8 +16,11 @@ returns-in-Some c =
     let message : HeldMessage = get_or messages at record { number = 0; receipt = 0 } in
     let more : take (at + 1) messages ≡ take at messages ++ message ∷ [] = grind (arith, common_steps) in
     let broken : first_broken (map judge (take (at + 1) messages)) ≡ Some c.in-Some.rule =
-    ap (λ (ms : List HeldMessage). first_broken (map judge ms)) more ∙ broken-push judge (take at messages) message c.loop-message.invariant ∙ sym c.held_rule.ensures ∙ c.in-Some.is in
-    sym (broken-more judge (take (at + 1) messages) (drop (at + 1) messages) c.in-Some.rule broken) ∙ ap (λ (ms : List HeldMessage). first_broken (map judge ms)) (take-append-drop (at + 1) messages)
+    ap (λ (ms : List HeldMessage). first_broken (map judge ms)) more
+    ∙ broken-push judge (take at messages) message c.loop-message.invariant ∙ sym c.held_rule.ensures
+    ∙ c.in-Some.is in
+    sym (broken-more judge (take (at + 1) messages) (drop (at + 1) messages) c.in-Some.rule broken)
+    ∙ ap (λ (ms : List HeldMessage). first_broken (map judge ms)) (take-append-drop (at + 1) messages)
 
 pub loop-message-preserved : goal.loop-message-preserved
 loop-message-preserved c =
@@ -26,4 +29,6 @@ loop-message-preserved c =
     let at = c.loop-message.message-index in
     let message : HeldMessage = get_or messages at record { number = 0; receipt = 0 } in
     let more : take (at + 1) messages ≡ take at messages ++ message ∷ [] = grind (arith, common_steps) in
-    ap (λ (ms : List HeldMessage). first_broken (map judge ms)) more ∙ broken-push judge (take at messages) message c.loop-message.invariant ∙ sym c.held_rule.ensures ∙ c.in_default.is
+    ap (λ (ms : List HeldMessage). first_broken (map judge ms)) more
+    ∙ broken-push judge (take at messages) message c.loop-message.invariant ∙ sym c.held_rule.ensures
+    ∙ c.in_default.is
