@@ -14,7 +14,10 @@ use Rattle.fh_dispatch.proofs.Lawful.{moves_numbers}
 use Rattle.fh_hub.specs.Stores.{Parts, Asks, Done, others_of, asked_queues}
 use Rattle.fh_hub.specs.StoreEdits.{HasNumbers, IsOutcome, parts_of}
 use Rattle.fh_hub.proofs.Outcomes.{all_make}
-use Rattle.fh_hub.proofs.Steps.{asks_as_told}
+use Rattle.fh_event.specs.Judging.{Makes}
+use Rattle.fh_dispatch.specs.Outcome as work_outcome
+use Rattle.fh_hub.proofs.Plain.{is_plain, plain_asked}
+use Rattle.fh_hub.proofs.Steps.{asks_as_told, asked_of_queues}
 use Rattle.fh_hub.specs.State.{HubState, IsBounded}
 
 -- a gate that has gone on by a frame leaves room for as many receipts as one ask gives
