@@ -1,5 +1,5 @@
 -- The response to a request.
-use Rattle.std.specs.Prelude.{ℕ, List, [], ◌++◌, codes, Result, Ok, Err}
+use Rattle.std.specs.Prelude.{ℕ, List, [], ◌++◌, codes, Option, Some, None, Result, Ok, Err}
 use Rattle.serde_json.specs.Data.{Data, string, object, no_members, member}
 use Rattle.serde_json.specs.Written.{compact_text}
 use Rattle.fh_base.specs.declared.rule.Rule.{Rule}
@@ -10,6 +10,8 @@ use Rattle.fh_event.specs.declared.faults.StepFault.TheVariants as step
 use Rattle.fh_event.specs.declared.reply.Reply.{Reply}
 use Rattle.fh_event.specs.declared.reply.Reply.TheVariants.{Made, There, Stored, BlobStored}
 use Rattle.fh_event.specs.Lines.{reply_line}
+use Rattle.fh_wire.specs.declared.fault.WireFault.{WireFault}
+use Rattle.fh_wire.specs.declared.fault.WireFault.TheVariants as wire
 use Rattle.fh_front.specs.declared.fault.FrontFault.{FrontFault}
 use Rattle.fh_front.specs.declared.fault.FrontFault.TheVariants.{NoRoute, BadMethod, BadQuery, BadBody, NoMemory}
 
@@ -79,3 +81,15 @@ front_response BadMethod = (405, codes "{\"error\":\"BadMethod\"}")
 front_response BadQuery = (400, codes "{\"error\":\"BadQuery\"}")
 front_response BadBody = (400, codes "{\"error\":\"BadBody\"}")
 front_response NoMemory = (500, codes "{\"error\":\"NoMemory\"}")
+
+-- a request that isn't read; where a call on the connection failed nothing is answered
+abbrev pub wire_response : WireFault → Option (ℕ × List ℕ)
+wire_response wire.BadHead = Some (400, codes "{\"error\":\"BadHead\"}")
+wire_response wire.BadLength = Some (400, codes "{\"error\":\"BadLength\"}")
+wire_response wire.TooLong = Some (413, codes "{\"error\":\"TooLong\"}")
+wire_response (wire.Cut got needed) = Some (400, codes "{\"error\":\"Cut\"}")
+wire_response wire.Chunked = Some (411, codes "{\"error\":\"Chunked\"}")
+wire_response wire.Coded = Some (415, codes "{\"error\":\"Coded\"}")
+wire_response wire.ReadFault = None
+wire_response wire.WriteFault = None
+wire_response wire.NoMemory = Some (500, codes "{\"error\":\"NoMemory\"}")

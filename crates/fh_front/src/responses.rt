@@ -1,13 +1,14 @@
 // The response to a request.
-ghost use Rattle.std.specs.Prelude.{◌≡◌, [], IfOk};
+ghost use Rattle.std.specs.Prelude.{◌≡◌, [], IfOk, option_map};
 ghost use Rattle.serde_json.specs.View.{view};
 ghost use Rattle.serde_json.specs.Written.{compact_text};
 ghost use Rattle.fh_event.specs.Lines.{reply_line};
-ghost use Rattle.fh_front.specs.Responses.{response_of, reply_status, reply_body, reply_json, rule_status, error_body, fault_status, fault_name, front_response};
+ghost use Rattle.fh_front.specs.Responses.{response_of, reply_status, reply_body, reply_json, rule_status, error_body, fault_status, fault_name, front_response, wire_response};
 
 use crate::fault::FrontFault;
 use fh_base::{NoMemory, Rule};
 use fh_event::{Reply, StepFault, answer_text};
+use fh_wire::WireFault;
 use serde_json::{Map, Value, json};
 use std::alloc::Global;
 
@@ -135,6 +136,23 @@ pub fn fault_response(fault: &FrontFault) -> (u16, &'static [u8])
         FrontFault::BadQuery => (400, b"{\"error\":\"BadQuery\"}"),
         FrontFault::BadBody => (400, b"{\"error\":\"BadBody\"}"),
         FrontFault::NoMemory => (500, b"{\"error\":\"NoMemory\"}"),
+    }
+}
+
+/// The status and the body of the response to a request that can't be read, or none where a call on its
+/// connection failed, so that nothing is answered. Takes no memory.
+pub fn wire_response(fault: &WireFault) -> Option<(u16, &'static [u8])>
+    ensures { option_map (λ response. (response.0, response.1.now)) result ≡ wire_response fault.now }
+{
+    match fault {
+        WireFault::BadHead => Some((400, b"{\"error\":\"BadHead\"}")),
+        WireFault::BadLength => Some((400, b"{\"error\":\"BadLength\"}")),
+        WireFault::TooLong => Some((413, b"{\"error\":\"TooLong\"}")),
+        WireFault::Cut { .. } => Some((400, b"{\"error\":\"Cut\"}")),
+        WireFault::Chunked => Some((411, b"{\"error\":\"Chunked\"}")),
+        WireFault::Coded => Some((415, b"{\"error\":\"Coded\"}")),
+        WireFault::ReadFault | WireFault::WriteFault => None,
+        WireFault::NoMemory => Some((500, b"{\"error\":\"NoMemory\"}")),
     }
 }
 

@@ -1,7 +1,7 @@
 use super::*;
 use fh_base::{Bytes, QueueName, Rule, Text};
 use fh_event::{Command, Item, Items, Place, Reply, StepFault};
-use fh_wire::HttpIn;
+use fh_wire::{HttpIn, WireFault};
 use http::Method;
 use std::alloc::Global;
 use std::test::Fail;
@@ -515,6 +515,20 @@ fn other_faults_have_their_status(rt: HostRuntime) -> Result<(), Fail> {
     for (fault, status, body) in table {
         assert_eq!(rt; fault_response(&fault).0, status);
         assert_eq!(rt; fault_response(&fault).1, body);
+    }
+    let table: [(WireFault, Option<u16>); 9] = [
+        (WireFault::BadHead, Some(400)),
+        (WireFault::BadLength, Some(400)),
+        (WireFault::TooLong, Some(413)),
+        (WireFault::Cut { got: 5, needed: 10 }, Some(400)),
+        (WireFault::Chunked, Some(411)),
+        (WireFault::Coded, Some(415)),
+        (WireFault::ReadFault, None),
+        (WireFault::WriteFault, None),
+        (WireFault::NoMemory, Some(500)),
+    ];
+    for (fault, status) in table {
+        assert_eq!(rt; wire_response(&fault).map(|response| response.0), status);
     }
     assert_eq!(rt; stop_response().0, 202);
     assert_eq!(rt; stop_response().1, b"".as_slice());
