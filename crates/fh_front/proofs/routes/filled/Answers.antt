@@ -1,0 +1,22 @@
+-- Ten inserts into an empty router leave the rows of the table, which both compute.
+use Rattle.std.proofs.Common.{refl}
+use Rattle.matchit.proofs.OnLiterals.{matchit_on_literals}
+use Rattle.fh_front.specs.Routes.{table}
+use Rattle.fh_front.proofs.routes.filled.Goals as goal
+
+pub returns : goal.returns
+unfolding matchit_on_literals table
+returns c =
+    rw (
+      c.in_ok-insert-10.ensures.1,
+      c.in_ok-insert-9.ensures.1,
+      c.in_ok-insert-8.ensures.1,
+      c.in_ok-insert-7.ensures.1,
+      c.in_ok-insert-6.ensures.1,
+      c.in_ok-insert-5.ensures.1,
+      c.in_ok-insert-4.ensures.1,
+      c.in_ok-insert-3.ensures.1,
+      c.in_ok-insert-2.ensures.1,
+      c.in_ok-insert.ensures.1,
+      c.new-router.ensures,
+    ) refl
