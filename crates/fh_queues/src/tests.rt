@@ -433,25 +433,24 @@ fn let_each_go(rt: &(impl Abort + AllocGlobal), queues: &mut Queues) -> Result<(
     Ok(())
 }
 
+fn make_of<'a>(queue: QueueName) -> QueueAsk<'a> {
+    QueueAsk::Make { queue }
+}
+
 #[test]
 fn what_is_let_go_leaves_the_queues(rt: HostRuntime) -> Result<(), Fail> {
     let text = Text::from_str(rt.alloc(), "a")?;
     let other = QueueName::read("other").ok_or("a queue's name")?;
     let start = moment(0)?;
     let mut queues = Queues::new(rt.alloc());
-    let_go(&rt, &mut queues, &QueueAsk::Make { queue: other }, start)?;
+    let make = make_of(other);
+    let_go(&rt, &mut queues, &make, start)?;
     assert!(rt; !queues.has_queue(&other));
     hold_one(&rt, &mut queues)?;
-    let put = QueueAsk::Put {
-        queue: orders()?,
-        delay: 0,
-        ttl: None,
-        text: &text,
-        about: None,
-    };
+    let put = ask_of(orders()?, &PUT_HI, &text);
     keeps_the_queues(&rt, &mut queues, &put)?;
     let_each_go(&rt, &mut queues)?;
-    keeps_the_queues(&rt, &mut queues, &QueueAsk::Make { queue: other })?;
+    keeps_the_queues(&rt, &mut queues, &make)?;
     assert!(rt; !queues.has_queue(&other));
     let next = answer(&rt, &mut queues, &PUT_HI, start)?;
     assert_eq!(rt; next.as_str(), "ok 2 3");

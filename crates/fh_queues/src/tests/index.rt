@@ -96,27 +96,35 @@ fn put_many(rt: &(impl Abort + AllocGlobal), queues: &mut Queues, count: u64) ->
     Ok(())
 }
 
+fn take_of<'a>(queue: QueueName) -> QueueAsk<'a> {
+    QueueAsk::Take {
+        queue,
+        count: 1,
+        hold: 30,
+    }
+}
+
+fn delete_of<'a>(queue: QueueName, number: u64, receipt: u64) -> QueueAsk<'a> {
+    QueueAsk::Delete {
+        queue,
+        number,
+        receipt,
+    }
+}
+
 // Takes one message and deletes it.
 fn take_and_delete(rt: &(impl Abort + AllocGlobal), queues: &mut Queues) -> Result<(), Fail>
     requires { IsIdle queues.old }
     ensures { IsIdle queues.new }
 {
-    let take = QueueAsk::Take {
-        queue: orders()?,
-        count: 1,
-        hold: 30,
-    };
+    let take = take_of(orders()?);
     let QueueDone::Taken { items } = done(rt, queues, &take, moment(0)?)? else {
         return Err("no message was taken".into());
     };
     let [item] = items.as_slice() else {
         return Err("not one message was taken".into());
     };
-    let delete = QueueAsk::Delete {
-        queue: orders()?,
-        number: item.number,
-        receipt: item.receipt,
-    };
+    let delete = delete_of(orders()?, item.number, item.receipt);
     done(rt, queues, &delete, moment(0)?)?;
     Ok(())
 }

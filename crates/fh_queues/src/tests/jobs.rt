@@ -127,6 +127,20 @@ fn told(
     }
 }
 
+fn release_it(
+    rt: &(impl Abort + AllocGlobal),
+    queues: &mut Queues,
+    message: HeldMessage,
+    delay: u64,
+    m: Moment,
+) -> Result<String, Fail>
+    requires { IsIdle queues.old }
+    ensures { IsIdle queues.new }
+{
+    let ask = QueueAsk::Release { message, delay };
+    told(rt, queues, &ask, m)
+}
+
 fn renew(
     rt: &(impl Abort + AllocGlobal),
     queues: &mut Queues,
@@ -141,6 +155,14 @@ fn renew(
     told(rt, queues, &ask, m)
 }
 
+fn completion<'a>(message: Option<HeldMessage>, outputs: &'a Outputs) -> QueueAsk<'a> {
+    QueueAsk::Complete {
+        invocation: 7,
+        message,
+        outputs,
+    }
+}
+
 fn complete(
     rt: &(impl Abort + AllocGlobal),
     queues: &mut Queues,
@@ -151,11 +173,7 @@ fn complete(
     requires { IsIdle queues.old }
     ensures { IsIdle queues.new }
 {
-    let ask = QueueAsk::Complete {
-        invocation: 7,
-        message,
-        outputs,
-    };
+    let ask = completion(message, outputs);
     told(rt, queues, &ask, m)
 }
 
@@ -190,10 +208,7 @@ fn job_answer(
 {
     match *job {
         Job::Plain { step } => answer(rt, queues, &step, m),
-        Job::Release { message, delay } => {
-            let ask = QueueAsk::Release { message, delay };
-            told(rt, queues, &ask, m)
-        }
+        Job::Release { message, delay } => release_it(rt, queues, message, delay, m),
         Job::Renew {
             first,
             second,
@@ -384,12 +399,8 @@ fn a_completion_that_is_let_go_sends_nothing(rt: HostRuntime) -> Result<(), Fail
     let mut queues = Queues::new(rt.alloc());
     hold_one(&rt, &mut queues)?;
     let outputs = outputs(rt.alloc(), "mail", "orders")?;
-    let complete = QueueAsk::Complete {
-        invocation: 7,
-        message: Some(held(1, 2)),
-        outputs: &outputs,
-    };
-    keeps_the_queues(&rt, &mut queues, &complete)?;
+    let ask = completion(Some(held(1, 2)), &outputs);
+    keeps_the_queues(&rt, &mut queues, &ask)?;
     let mail = QueueName::read("mail").ok_or("a queue's name")?;
     assert!(rt; !queues.has_queue(&mail));
     Ok(())
