@@ -5,7 +5,7 @@ use Rattle.std.specs.Ordering.{is_lt, is_eq, is_ne, is_gt, ordering_reverse}
 use Rattle.std.specs.Cmp.{IsTotalOrder}
 use Rattle.std.specs.declared.cmp.Ordering.{Ordering}
 use Rattle.std.specs.declared.cmp.Ordering.TheVariants.{Less, Equal, Greater}
-use Rattle.fh_rows.specs.Rows.{row_at, with_row, with_row_at, without_row_at}
+use Rattle.fh_rows.specs.Rows.{row_at, with_row, without_row_at}
 
 abbrev or_else : {X : Type 0} → Option X → Option X → Option X
 or_else None other = other

@@ -1,15 +1,14 @@
 -- Rows in order: where a search ends, and what keeps them in order.
-use Rattle.std.proofs.Common.{◌≡◌, ℕ, zero, suc, ◌+◌, ◌<◌, ◌≤◌, Bool, true, false, List, [], ◌∷◌, ◌++◌, length, filter, Result, Ok, Err, refl, ap, sym, ◌∙◌, ◌⊎◌, ⊎_elim, slice_index_or, arith}
+use Rattle.std.proofs.Common.{◌≡◌, ℕ, zero, suc, ◌<◌, ◌≤◌, Bool, true, false, List, [], ◌∷◌, ◌++◌, length, filter, map, Result, Ok, Err, refl, ap, sym, ◌∙◌, ⊎_elim, slice_index_or, arith}
 use Rattle.std.specs.Prelude.{◌&&◌, if◌then◌else◌}
-use Rattle.std.specs.List.{AllWithin, HoldsAt, list_all}
+use Rattle.std.specs.List.{list_all}
 use Rattle.std.specs.List.Sorted.{IsBinarySearchResult, IsSearchInRange}
-use Rattle.std.specs.Ordering.{is_lt, is_le, is_eq, is_gt, is_ne, ordering_index, ordering_reverse}
+use Rattle.std.specs.Ordering.{is_lt, is_eq, is_gt, is_ne, ordering_index, ordering_reverse}
 use Rattle.std.specs.Cmp.{IsTotalOrder}
 use Rattle.std.specs.declared.cmp.Ordering.{Ordering}
 use Rattle.std.specs.declared.cmp.Ordering.TheVariants.{Less, Equal, Greater}
 use Rattle.std.proofs.lemmas.Bool.{cases_lt}
-use Rattle.std.proofs.lemmas.Bool.Decides.{nat_tests}
-use Rattle.fh_rows.specs.Rows.{with_row, without_row_at, are_in_order}
+use Rattle.fh_rows.specs.Rows.{with_row, with_change_at, without_row_at, are_in_order}
 use Rattle.fh_rows.specs.Places.{IsPlace}
 
 less : (o : Ordering) → is_lt o ≡ true → o ≡ Less
@@ -147,3 +146,32 @@ module _ {Row : Type 0} (order : Row → Row → Ordering) where
 
         behind : (row : Row) → is_gt (order row new) ≡ true → is_lt (order new row) ≡ true
         behind row is = ap is_lt (total.antisymm new row) ∙ sym (turned (order row new)) ∙ is
+
+    -- changes that leave the keys leave the order
+    module _ (change : Row → Row) (keeps : (row : Row) → order (change row) row ≡ Equal) (place : Row → Ordering) where
+      abbrev changes : Row → Row
+      changes row = if is_eq (place row) then change row else row
+
+      itself : (o : Ordering) → o ≡ ordering_reverse o → o ≡ Equal
+      itself Less is = cc
+      itself Equal is = refl
+      itself Greater is = cc
+
+      same_key : (row : Row) → order (changes row) row ≡ Equal
+      same_key row = by_test (is_eq (place row))
+        where
+          by_test : (b : Bool) → order (if b then change row else row) row ≡ Equal
+          by_test true = keeps row
+          by_test false = itself (order row row) (total.antisymm row row)
+
+      apart_still : (row later : Row) → is_lt (order row later) ≡ true → is_lt (order (changes row) (changes later)) ≡ true
+      apart_still row later is =
+          ap is_lt (total.congr (changes row) row (changes later) (same_key row) ∙ alike row later (changes later) (total.antisymm later (changes later) ∙ ap ordering_reverse (same_key later))) ∙ is
+
+      all_still : (row : Row) (rows : List Row) → list_all (λ later. is_lt (order row later)) rows ≡ true → list_all (λ later. is_lt (order (changes row) later)) (map changes rows) ≡ true
+      all_still row [] all = refl
+      all_still row (later ∷ rows) all = both _ _ (apart_still row later (first_of_both _ _ all)) (all_still row rows (second_of_both _ _ all))
+
+      pub in_order-changed : (rows : List Row) → are_in_order order rows ≡ true → are_in_order order (with_change_at place change rows) ≡ true
+      in_order-changed [] ordered = refl
+      in_order-changed (row ∷ rows) ordered = both _ _ (all_still row rows (first_of_both _ _ ordered)) (in_order-changed rows (second_of_both _ _ ordered))

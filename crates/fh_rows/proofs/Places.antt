@@ -1,14 +1,14 @@
 -- What the rows are at a key, by its place.
-use Rattle.std.proofs.Common.{◌≡◌, ℕ, ◌+◌, ◌<◌, ◌≤◌, Bool, true, false, List, [], ◌∷◌, ◌++◌, length, take, drop, filter, Option, Some, None, Ok, Err, refl, ap, sym, ◌∙◌, subst, ◌⊎◌, ⊎_elim, slice_index_or, slice_set, arith}
+use Rattle.std.proofs.Common.{◌≡◌, ℕ, ◌+◌, Bool, false, List, ◌∷◌, ◌++◌, length, take, filter, Some, None, Ok, Err, refl, ap, sym, ◌∙◌, subst, ⊎_elim, slice_index_or, slice_set, arith}
 use Rattle.std.specs.Prelude.{insert, remove}
 use Rattle.std.specs.List.{AllWithin, HoldsAt}
 use Rattle.std.specs.Ordering.{is_lt, is_eq, is_ne, is_gt}
 use Rattle.std.specs.declared.cmp.Ordering.{Ordering}
 use Rattle.std.specs.declared.cmp.Ordering.TheVariants.{Less, Equal, Greater}
 use Rattle.std.proofs.lemmas.Bool.{cases_lt}
-use Rattle.fh_rows.specs.Rows.{row_at, with_row_at, without_row_at}
+use Rattle.fh_rows.specs.Rows.{row_at, with_row_at, with_change_at, without_row_at}
 use Rattle.fh_rows.specs.Places.{IsPlace}
-use Rattle.fh_rows.proofs.Parts.{filter-all, filter-first, filter-last, filter-but, find-at, find-none, slice_set-parts}
+use Rattle.fh_rows.proofs.Parts.{filter-all, filter-first, filter-last, filter-but, find-at, find-none, map-same, map-but, slice_set-parts}
 
 module _ {Row : Type 0} (place : Row → Ordering) (rows : List Row) where
   -- what a test says of rows that stand so
@@ -54,3 +54,10 @@ module _ {Row : Type 0} (place : Row → Ordering) (rows : List Row) where
 
   pub without_row_at-none : (i : ℕ) → IsPlace place rows (Err i) → without_row_at place rows ≡ rows
   without_row_at-none i at = filter-all (λ row. is_ne (place row)) rows (λ k d from below. ⊎_elim (λ early. ap is_ne (at.1 k d from early)) (λ late. ap is_ne (at.2 k d late below)) (cases_lt k i))
+
+  pub with_change_at-found : (change : Row → Row) (i : ℕ) (d : Row) → IsPlace place rows (Ok i) → with_change_at place change rows ≡ slice_set rows i (change (slice_index_or rows i d))
+  with_change_at-found change i d at =
+      map-but (λ row. is_eq (place row)) change rows i d at.0 (tested is_eq Less 0 i at.1) (λ e. ap is_eq (at.2 e)) (tested is_eq Greater (i + 1) (length rows) at.3)
+
+  pub with_change_at-none : (change : Row → Row) (i : ℕ) → IsPlace place rows (Err i) → with_change_at place change rows ≡ rows
+  with_change_at-none change i at = map-same (λ row. is_eq (place row)) change rows (λ k d from below. ⊎_elim (λ early. ap is_eq (at.1 k d from early)) (λ late. ap is_eq (at.2 k d late below)) (cases_lt k i))

@@ -1,13 +1,13 @@
 -- Where the rows of a part of the order stand.
-use Rattle.std.proofs.Common.{◌≡◌, ℕ, ◌+◌, ◌-◌, ◌<◌, ◌≤◌, Bool, true, false, List, [], ◌∷◌, length, refl, ap, sym, ◌∙◌, ◌⊎◌, ⊎_elim, slice_index_or, take, drop, arith}
-use Rattle.std.specs.List.{AllWithin, slice_range}
+use Rattle.std.proofs.Common.{◌≡◌, ℕ, ◌≤◌, Bool, true, false, List, [], ◌∷◌, length, refl, ap, ⊎_elim, slice_index_or, arith}
+use Rattle.std.specs.List.{slice_range, remove_range}
 use Rattle.std.specs.List.Sorted.{IsPartitionedBy, IsPartitionPoint}
-use Rattle.std.specs.Ordering.{is_lt, is_le, is_eq, is_gt}
+use Rattle.std.specs.Ordering.{is_lt, is_le, is_eq, is_ne, is_gt}
 use Rattle.std.specs.declared.cmp.Ordering.{Ordering}
 use Rattle.std.specs.declared.cmp.Ordering.TheVariants.{Less, Equal, Greater}
 use Rattle.std.proofs.lemmas.Bool.{cases_lt}
-use Rattle.fh_rows.specs.Rows.{rows_at, are_in_order, IsSpan}
-use Rattle.fh_rows.proofs.Parts.{filter-within}
+use Rattle.fh_rows.specs.Rows.{rows_at, without_row_at, are_in_order, IsSpan}
+use Rattle.fh_rows.proofs.Parts.{filter-within, filter-without}
 use Rattle.fh_rows.proofs.Order.{in_order-at}
 
 less : (o : Ordering) → is_lt o ≡ true → o ≡ Less
@@ -76,3 +76,20 @@ module _ {Row : Type 0} (order : Row → Row → Ordering) (place : Row → Orde
         (λ k d from below. from_before _ (first.0 k d from below))
         (λ k d from below. from_inside _ (first.1 k d from (omega (arith, below, most))) (last.0 k d (omega arith) below))
         (λ k d from below. from_behind _ (last.1 k d from below))
+
+    not_in : (o : Ordering) → is_eq o ≡ false → is_ne o ≡ true
+    not_in Less is = refl
+    not_in Equal is = cc
+    not_in Greater is = refl
+
+    inside_of : (o : Ordering) → is_eq o ≡ true → is_ne o ≡ false
+    inside_of Less is = cc
+    inside_of Equal is = refl
+    inside_of Greater is = cc
+
+    pub without_row_at-range : without_row_at place rows ≡ remove_range rows start end
+    without_row_at-range =
+        filter-without (λ row. is_ne (place row)) rows start end begins_first most
+        (λ k d from below. not_in _ (from_before _ (first.0 k d from below)))
+        (λ k d from below. inside_of _ (from_inside _ (first.1 k d from (omega (arith, below, most))) (last.0 k d (omega arith) below)))
+        (λ k d from below. not_in _ (from_behind _ (last.1 k d from below)))

@@ -1,4 +1,3 @@
-use Rattle.std.proofs.Common.{sym, ◌∙◌}
 use Rattle.fh_rows.proofs.Order.{in_order-with}
 use Rattle.fh_rows.proofs.rows.Rows.set.Goals as goal
 
