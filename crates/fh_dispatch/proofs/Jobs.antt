@@ -10,31 +10,9 @@ use Rattle.std.proofs.SliceLists.{hd}
 use Rattle.std.proofs.lemmas.List.Elements.{All-filter, filter-append}
 use Rattle.std.proofs.lemmas.List.Sorted.{IsNonDecreasingBy-insert}
 use Rattle.fh_rows.proofs.Parts.{filter-first, filter-last, filter-within}
+use Rattle.fh_dispatch.proofs.Filters.{filter-kept, filter-dropped}
 use Rattle.fh_dispatch.specs.declared.ready.ReadyJob.{ReadyJob}
 use Rattle.fh_dispatch.specs.Ready.{AreInOrder, jobs_of, with_job, without_jobs_of}
-
--- ---- what is filtered twice
-
-module _ {X : Type 0} (q keeps : X → Bool) where
-  -- all that is sought is kept
-  filter-kept : ((x : X) → q x ≡ true → keeps x ≡ true) → (xs : List X) → filter q (filter keeps xs) ≡ filter q xs
-  filter-kept kept [] = refl
-  filter-kept kept (x ∷ xs) = by_tests (q x) (keeps x) refl refl (filter-kept kept xs)
-    where
-      by_tests : (b k : Bool) → q x ≡ b → keeps x ≡ k → filter q (filter keeps xs) ≡ filter q xs → filter q (if k then x ∷ filter keeps xs else filter keeps xs) ≡ (if b then x ∷ filter q xs else filter q xs)
-      by_tests true true is keep rest = rw is (ap (λ more. x ∷ more) rest)
-      by_tests true false is keep rest = absurd (cc (kept x is))
-      by_tests false true is keep rest = rw is rest
-      by_tests false false is keep rest = rest
-
-  -- nothing that is sought is kept
-  filter-dropped : ((x : X) → keeps x ≡ true → q x ≡ false) → (xs : List X) → filter q (filter keeps xs) ≡ []
-  filter-dropped dropped [] = refl
-  filter-dropped dropped (x ∷ xs) = by_test (keeps x) refl (filter-dropped dropped xs)
-    where
-      by_test : (k : Bool) → keeps x ≡ k → filter q (filter keeps xs) ≡ [] → filter q (if k then x ∷ filter keeps xs else filter keeps xs) ≡ []
-      by_test true keep rest = rw (dropped x keep) rest
-      by_test false keep rest = rest
 
 -- ---- the jobs of a function
 

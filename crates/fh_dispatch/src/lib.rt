@@ -17,12 +17,14 @@ mod ask;
 mod change;
 mod done;
 mod function;
+mod invocations;
 mod laws;
 mod note;
 mod planning;
 mod queues;
 mod ready;
 mod rules;
+mod running;
 mod settings;
 mod staging;
 mod timer;
@@ -32,6 +34,7 @@ pub use ask::WorkAsk;
 pub use change::{StagedWork, WorkChange, WorkPlan};
 pub use done::WorkDone;
 pub use function::Function;
+pub use invocations::Invocations;
 pub use laws::{
     asks_have_their_answers, functions_are_as_configured, jobs_are_as_asked,
     numbers_are_given_in_turn, numbers_are_kept, numbers_move_little, one_job_stays_one,
@@ -41,6 +44,7 @@ pub use laws::{
 pub use note::note_text;
 pub use queues::inner_queue;
 pub use ready::ReadyJob;
+pub use running::{Job, Running};
 pub use timer::Timer;
 pub use work::Work;
 

@@ -16,14 +16,14 @@ less Less is = refl
 less Equal is = cc
 less Greater is = cc
 
-both : (a b : Bool) → a ≡ true → b ≡ true → (a && b) ≡ true
+pub both : (a b : Bool) → a ≡ true → b ≡ true → (a && b) ≡ true
 both a b x y = rw x y
 
-first_of_both : (a b : Bool) → (a && b) ≡ true → a ≡ true
+pub first_of_both : (a b : Bool) → (a && b) ≡ true → a ≡ true
 first_of_both true b is = refl
 first_of_both false b is = is
 
-second_of_both : (a b : Bool) → (a && b) ≡ true → b ≡ true
+pub second_of_both : (a b : Bool) → (a && b) ≡ true → b ≡ true
 second_of_both true b is = is
 second_of_both false b is = cc
 
@@ -32,7 +32,7 @@ list_all-at p [] all k d within = absurd (omega (arith, within))
 list_all-at p (x ∷ xs) all zero d within = first_of_both _ _ all
 list_all-at p (x ∷ xs) all (suc k) d within = list_all-at p xs (second_of_both _ _ all) k d (omega (arith, within))
 
-list_all-filter : {X : Type 0} (p keeps : X → Bool) (xs : List X) → list_all p xs ≡ true → list_all p (filter keeps xs) ≡ true
+pub list_all-filter : {X : Type 0} (p keeps : X → Bool) (xs : List X) → list_all p xs ≡ true → list_all p (filter keeps xs) ≡ true
 list_all-filter p keeps [] all = refl
 list_all-filter p keeps (x ∷ xs) all = by_test (keeps x) (first_of_both _ _ all) (list_all-filter p keeps xs (second_of_both _ _ all))
   where
@@ -41,7 +41,7 @@ list_all-filter p keeps (x ∷ xs) all = by_test (keeps x) (first_of_both _ _ al
     by_test false here rest = rest
 
 -- what all that pass one test have by another
-list_all-passing : {X : Type 0} (p keeps : X → Bool) → ((x : X) → keeps x ≡ true → p x ≡ true) → (xs : List X) → list_all p (filter keeps xs) ≡ true
+pub list_all-passing : {X : Type 0} (p keeps : X → Bool) → ((x : X) → keeps x ≡ true → p x ≡ true) → (xs : List X) → list_all p (filter keeps xs) ≡ true
 list_all-passing p keeps gives [] = refl
 list_all-passing p keeps gives (x ∷ xs) = by_test (keeps x) refl (list_all-passing p keeps gives xs)
   where
@@ -49,11 +49,11 @@ list_all-passing p keeps gives (x ∷ xs) = by_test (keeps x) refl (list_all-pas
     by_test true kept rest = both _ _ (gives x kept) rest
     by_test false out rest = rest
 
-list_all-weaker : {X : Type 0} (p q : X → Bool) → ((x : X) → p x ≡ true → q x ≡ true) → (xs : List X) → list_all p xs ≡ true → list_all q xs ≡ true
+pub list_all-weaker : {X : Type 0} (p q : X → Bool) → ((x : X) → p x ≡ true → q x ≡ true) → (xs : List X) → list_all p xs ≡ true → list_all q xs ≡ true
 list_all-weaker p q gives [] all = refl
 list_all-weaker p q gives (x ∷ xs) all = both _ _ (gives x (first_of_both _ _ all)) (list_all-weaker p q gives xs (second_of_both _ _ all))
 
-list_all-append : {X : Type 0} (p : X → Bool) (xs ys : List X) → list_all p xs ≡ true → list_all p ys ≡ true → list_all p (xs ++ ys) ≡ true
+pub list_all-append : {X : Type 0} (p : X → Bool) (xs ys : List X) → list_all p xs ≡ true → list_all p ys ≡ true → list_all p (xs ++ ys) ≡ true
 list_all-append p [] ys front back = back
 list_all-append p (x ∷ xs) ys front back = both _ _ (first_of_both _ _ front) (list_all-append p xs ys (second_of_both _ _ front) back)
 
@@ -130,6 +130,46 @@ module _ {Row : Type 0} (order : Row → Row → Ordering) where
         both _ _
         (list_all-append (λ later. is_lt (order row later)) front (new ∷ back) (first_of_both _ _ first) (both _ _ (ap is_lt before) (before_all row new before back above)))
         (in_order-joined front new back (second_of_both _ _ first) last (second_of_both _ _ below) above)
+
+    none_before : (row new : Row) → order row new ≡ Greater → (rows : List Row)
+      → list_all (λ later. is_lt (order row later)) rows ≡ true → filter (λ later. is_lt (order later new)) rows ≡ []
+    none_before row new behind [] all = refl
+    none_before row new behind (later ∷ rows) all =
+        by_place (order later new) refl (none_before row new behind rows (second_of_both _ _ all))
+      where
+        by_place : (o : Ordering) → order later new ≡ o → filter (λ later. is_lt (order later new)) rows ≡ []
+          → (if is_lt o then later ∷ filter (λ later. is_lt (order later new)) rows
+            else filter (λ later. is_lt (order later new)) rows) ≡ []
+        by_place Less is rest = cc (total.trans row later new (less _ (first_of_both _ _ all)) is, behind)
+        by_place Equal is rest = rest
+        by_place Greater is rest = rest
+
+    -- rows none of which has this key are those before it and those behind it
+    pub parts-apart : (new : Row) (rows : List Row) → are_in_order order rows ≡ true
+      → list_all (λ row. is_ne (order row new)) rows ≡ true
+      → filter (λ row. is_lt (order row new)) rows ++ filter (λ row. is_gt (order row new)) rows ≡ rows
+    parts-apart new [] ordered apart = refl
+    parts-apart new (row ∷ rows) ordered apart =
+        by_place (order row new) refl (parts-apart new rows (second_of_both _ _ ordered) (second_of_both _ _ apart))
+      where
+        front : List Row
+        front = filter (λ row. is_lt (order row new)) rows
+
+        back : List Row
+        back = filter (λ row. is_gt (order row new)) rows
+
+        stays : (b : Bool) → b ≡ true → b ≡ false → ⊥
+        stays true is isnt = cc
+        stays false is isnt = cc
+
+        by_place : (o : Ordering) → order row new ≡ o → front ++ back ≡ rows
+          → (if is_lt o then row ∷ front else front) ++ (if is_gt o then row ∷ back else back) ≡ row ∷ rows
+        by_place Less is rest = ap (λ more. row ∷ more) rest
+        by_place Equal is rest = absurd (stays (is_ne (order row new)) (first_of_both _ _ apart) (ap is_ne is))
+        by_place Greater is rest =
+            let none : front ≡ [] = none_before row new is rows (first_of_both _ _ ordered) in
+            ap (λ more. more ++ row ∷ back) none
+            ∙ ap (λ more. row ∷ more) (sym (ap (λ more. more ++ back) none) ∙ rest)
 
     pub in_order-with : (new : Row) (rows : List Row) → are_in_order order rows ≡ true → are_in_order order (with_row order new rows) ≡ true
     in_order-with new rows ordered =
