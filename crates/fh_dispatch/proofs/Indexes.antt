@@ -1,11 +1,12 @@
 -- What each change makes of the rows and of their index.
-use Rattle.std.proofs.Common.{◌≡◌, ℕ, zero, suc, ◌+◌, ◌-◌, ◌<◌, ◌≤◌, Bool, true, false, List, [], ◌∷◌, ◌++◌, length, find, filter, map, Option, Some, None, refl, ap, sym, ◌∙◌, subst, arith}
+use Rattle.std.proofs.Common.{◌≡◌, ℕ, zero, suc, ◌+◌, ◌-◌, ◌<◌, ◌≤◌, Bool, true, false, List, [], ◌∷◌, ◌++◌, length, find, filter, map, Option, Some, None, refl, ap, sym, ◌∙◌, ⊎_elim, arith}
 use Rattle.std.specs.Prelude.{◌==◌, nat_le, ◌&&◌, if◌then◌else◌, slice_index}
 use Rattle.std.specs.List.{list_all}
 use Rattle.std.specs.Option.{option_to_list}
 use Rattle.std.specs.Ordering.{is_lt, is_eq, is_ne, is_gt, nat_cmp, ordering_then}
 use Rattle.std.specs.declared.cmp.Ordering.{Ordering}
 use Rattle.std.specs.declared.cmp.Ordering.TheVariants.{Less, Equal, Greater}
+use Rattle.std.proofs.lemmas.Bool.{cases_lt}
 use Rattle.std.proofs.lemmas.Bool.Decides.{nat_tests}
 use Rattle.std.proofs.lemmas.List.Elements.{filter-append}
 use Rattle.std.proofs.lemmas.List.Folds.{list_all-map}
@@ -13,8 +14,8 @@ use Rattle.fh_rows.specs.Rows.{row_at, rows_at, with_row, with_change_at, withou
 use Rattle.fh_rows.proofs.Order.{both, first_of_both, second_of_both, list_all-filter, list_all-weaker, list_all-append, parts-apart, in_order-with, in_order-filter, in_order-changed}
 use Rattle.fh_rows.proofs.Lawful.{find-passes}
 use Rattle.fh_dispatch.specs.declared.running.Running.{Running}
-use Rattle.fh_dispatch.specs.Invocations.{by_number, by_function, by_run, run_of, runs_of, renewed}
-use Rattle.fh_dispatch.specs.Runs.{order, runs_total, renewed_key, in_turn, function_at, is_known, key_of, key_at, IsIndexed, HasKey, HasNoKeys, key_without}
+use Rattle.fh_dispatch.specs.Invocations.{by_number, by_function, by_run, run_of, runs_of, renewed, lowest}
+use Rattle.fh_dispatch.specs.Runs.{order, runs_total, renewed_key, in_turn, function_at, is_known, key_of, key_at, IsIndexed, HasKey, HasNoKeys, key_without, IsLengthened}
 use Rattle.fh_dispatch.proofs.Filters.{filter-kept, filter-dropped, filter-filter, filter-map, find-head, head, filter-alike, find-alike, map-alike}
 use Rattle.fh_dispatch.proofs.Keys.{is_eq-nat_cmp, eq-nat_cmp, ne-nat_cmp, is_ne-as_eq, known_at, known_from, known-append, function_at-within, function_at-next, by_run-number}
 use Rattle.fh_dispatch.proofs.InTurn.{in_turn-next, in_turn-none, in_turn-filter, in_turn-map, find-none, find-first, rows_at-number, run_of-number, alone}
@@ -323,6 +324,23 @@ module _ (rows : List Running) (functions dues : List ℕ) (indexed : IsIndexed 
           by_found None there is to was = rw is (to ∙ rw is (was ∙ rw is refl))
           by_found (Some run) there is to was = rw is (by_test run (is_eq (by_function f run)) refl (to ∙ rw is refl) (was ∙ rw is refl))
 
+  -- ---- room for more
+
+  pub indexed-lengthened : length functions ≤ length dues → (longer : List ℕ) → IsLengthened dues longer → IsIndexed rows functions longer
+  indexed-lengthened enough longer more = record {
+    ordered = indexed.ordered;
+    known = indexed.known;
+    keyed = λ j below. ⊎_elim (λ old. more.kept j old ∙ indexed.keyed j old) (λ new. more.empty j (omega (arith, new)) below ∙ sym (ap key_at (beyond j (omega (arith, new, enough))))) (cases_lt j (length dues));
+  }
+    where
+      beyond : (j : ℕ) → length functions ≤ j → rows_at (by_number (j + 1)) rows ≡ []
+      beyond j far = filter-alike (is_known functions) (λ run. is_eq (by_number (j + 1) run)) (λ run. false) lower' rows indexed.known ∙ filter-nothing rows
+        where
+          lower' : (run : Running) → is_known functions run ≡ true → is_eq (by_number (j + 1) run) ≡ false
+          lower' run known =
+              let within = (function_at-within functions run.invocation run.function (known_at functions run known)).1 in
+              is_eq-nat_cmp run.invocation (j + 1) ∙ grind (arith, nat_tests, within, far)
+
   -- ---- one that is found
 
   find-known : (p q : Running → Bool) (runs : List Running) (run : Running) → list_all p runs ≡ true → find q runs ≡ Some run → p run ≡ true
@@ -391,3 +409,91 @@ module _ (rows : List Running) (functions dues : List ℕ) (indexed : IsIndexed 
             (λ i below. none_at i (omega (arith, below, high)) (λ from_low. above i from_low (omega (arith, below, low))))
             (rw (is, test) refl)
             ∙ sym (run_of-number functions rows indexed.ordered indexed.known number ∙ ap (λ n. run_of n rows) (sym same) ∙ here)
+
+  -- ---- the one of the least number
+
+  pub lowest-is : (number : ℕ) → 1 ≤ number → number ≤ length dues → slice_index dues (number - 1) ≤ 18446744073709551614
+    → find (λ run. true) running ≡ run_of number running → lowest running ≡ Some number
+  lowest-is number low high due first = by_runs running refl
+    where
+      same : number - 1 + 1 ≡ number
+      same = omega (arith, low)
+
+      by_runs : (runs : List Running) → running ≡ runs → lowest running ≡ Some number
+      by_runs [] is =
+          let gone : run_of number running ≡ None = sym first ∙ ap (find (λ run. true)) is in
+          let none : rows_at (by_number (number - 1 + 1)) rows ≡ [] =
+          ap (λ n. rows_at (by_number n) rows) same ∙ sym (rows_at-number functions rows indexed.ordered indexed.known number) ∙ rows_at-gone number gone in
+          let empty = indexed.keyed (number - 1) (omega (arith, low, high)) ∙ ap key_at none in
+          absurd (omega (arith, empty, due))
+      by_runs (run ∷ runs) is =
+          let found : run_of number running ≡ Some run = sym first ∙ ap (find (λ run. true)) is in
+          ap lowest is ∙ ap Some (eq-nat_cmp run.invocation number (find-passes (λ run. is_eq (by_number number run)) running run found))
+
+pub lowest-none : (runs : List Running) → find (λ run. true) runs ≡ None → lowest runs ≡ None
+lowest-none [] none = refl
+lowest-none (run ∷ runs) none = cc
+
+-- ---- keys
+
+pub key-last : (due : ℕ) → key_of due ≤ 18446744073709551614
+key-last due = by_test (nat_le due 18446744073709551614) refl
+  where
+    by_test : (b : Bool) → nat_le due 18446744073709551614 ≡ b → (if b then due else 18446744073709551614) ≤ 18446744073709551614
+    by_test true is = grind (arith, nat_tests, is)
+    by_test false is = omega arith
+
+key-due : (due most : ℕ) → most < 18446744073709551614 → key_of due ≤ most → due ≤ most
+key-due due most bound = by_test (nat_le due 18446744073709551614)
+  where
+    by_test : (b : Bool) → (if b then due else 18446744073709551614) ≤ most → due ≤ most
+    by_test true le = le
+    by_test false le = absurd (omega (arith, le, bound))
+
+due-key : (due most : ℕ) → most < 18446744073709551614 → due ≤ most → key_of due ≤ most
+due-key due most bound le = by_test (nat_le due 18446744073709551614) refl
+  where
+    by_test : (b : Bool) → nat_le due 18446744073709551614 ≡ b → (if b then due else 18446744073709551614) ≤ most
+    by_test true is = le
+    by_test false is = absurd (grind (arith, nat_tests, is, le, bound))
+
+module _ (from most : ℕ) (bound : most < 18446744073709551614) (run : Running) where
+  pub due-passes : (nat_le from run.invocation && nat_le run.due most) ≡ true → (from ≤ run.invocation) × (key_of run.due ≤ most)
+  due-passes test =
+      let late : nat_le from run.invocation ≡ true = first_of_both (nat_le from run.invocation) (nat_le run.due most) test in
+      let due : nat_le run.due most ≡ true = second_of_both (nat_le from run.invocation) (nat_le run.due most) test in
+      let le : run.due ≤ most = grind (arith, nat_tests, due) in
+      (grind (arith, nat_tests, late), due-key run.due most bound le)
+
+  pub due-tells : (number : ℕ) → from ≤ number → run.invocation ≡ number → key_of run.due ≤ most
+    → (nat_le from run.invocation && nat_le run.due most) ≡ true
+  due-tells number late same key =
+      let from_late : nat_le from run.invocation ≡ true = grind (arith, nat_tests, late, same) in
+      let le : run.due ≤ most = key-due run.due most bound key in
+      let due : nat_le run.due most ≡ true = grind (arith, nat_tests, le) in
+      both (nat_le from run.invocation) (nat_le run.due most) from_late due
+
+-- ---- keys that go, one by one
+
+pub no_keys-next : (gone : List Running) (run : Running) (dues mid changed : List ℕ) → length mid ≡ length dues → HasNoKeys gone dues mid
+  → HasKey run.invocation 18446744073709551615 mid changed → HasNoKeys (gone ++ run ∷ []) dues changed
+no_keys-next gone run dues mid changed same before key i below =
+    by_same (is_eq (by_number (i + 1) run)) refl (i + 1 == run.invocation) refl (before i below) (key i (omega (arith, below, same)))
+    ∙ sym (ap (λ there. key_without there (slice_index dues i)) (filter-append (λ other. is_eq (by_number (i + 1) other)) gone (run ∷ [])))
+  where
+    joined : (there : List Running) → key_without (there ++ run ∷ []) (slice_index dues i) ≡ 18446744073709551615
+    joined [] = refl
+    joined (other ∷ there) = refl
+
+    alone_there : (there : List Running) → key_without there (slice_index dues i) ≡ key_without (there ++ []) (slice_index dues i)
+    alone_there [] = refl
+    alone_there (other ∷ there) = refl
+
+    by_same : (b : Bool) → is_eq (by_number (i + 1) run) ≡ b → (t : Bool) → (i + 1 == run.invocation) ≡ t
+      → slice_index mid i ≡ key_without (rows_at (by_number (i + 1)) gone) (slice_index dues i)
+      → slice_index changed i ≡ (if t then 18446744073709551615 else slice_index mid i)
+      → slice_index changed i ≡ key_without (rows_at (by_number (i + 1)) gone ++ (if b then run ∷ [] else [])) (slice_index dues i)
+    by_same true here true test was to = to ∙ sym (joined (rows_at (by_number (i + 1)) gone))
+    by_same false other false test was to = to ∙ was ∙ alone_there (rows_at (by_number (i + 1)) gone)
+    by_same true here false test was to = let at = eq-nat_cmp run.invocation (i + 1) here in absurd (grind (arith, nat_tests, test, at))
+    by_same false other true test was to = absurd (ne-nat_cmp run.invocation (i + 1) other (grind (arith, nat_tests, test)))

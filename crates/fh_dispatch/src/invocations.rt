@@ -98,7 +98,7 @@ impl Invocations {
     pub fn lowest(&self) -> Option<u64>
         ensures { result ≡ lowest self.now.running }
     {
-        first_key(&self.dues, 1, LAST_KEY)
+        first_key(&self.dues, 0, LAST_KEY)
     }
 
     /// Makes room for so many more.
@@ -243,10 +243,9 @@ fn lengthen(dues: &mut Minima, len: usize) -> Result<(), NoMemory>
     ensures keys { IsLengthened dues.old dues.new }
     ensures len { OnOk result (len ≤ length dues.new) }
 {
-    for _ in dues.len()..len {
-        match dues.push(NO_KEY) {
-            Ok(()) => (),
-            Err(_) => return Err(NoMemory),
+    for _place in dues.len()..len {
+        if dues.push(NO_KEY).is_err() {
+            return Err(NoMemory);
         }
     }
     Ok(())
