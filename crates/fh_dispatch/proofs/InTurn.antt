@@ -1,15 +1,14 @@
 -- Rows in order of function and number, seen in order of number.
-use Rattle.std.proofs.Common.{◌≡◌, ℕ, zero, suc, ◌+◌, ◌<◌, ◌≤◌, Bool, true, false, List, [], ◌∷◌, ◌++◌, length, find, filter, map, Option, Some, None, refl, ap, sym, ◌∙◌, ◌⊎◌, ⊎_elim, arith}
+use Rattle.std.proofs.Common.{◌≡◌, ℕ, zero, suc, ◌+◌, ◌<◌, Bool, true, false, List, [], ◌∷◌, ◌++◌, length, find, filter, map, Some, None, refl, ap, sym, ◌∙◌, ⊎_elim, arith}
 use Rattle.std.specs.Prelude.{◌==◌, nat_le, ◌&&◌, if◌then◌else◌}
 use Rattle.std.specs.List.{list_all}
 use Rattle.std.specs.Option.{option_to_list}
 use Rattle.std.specs.Ordering.{is_lt, is_eq, nat_cmp, ordering_then}
-use Rattle.std.specs.declared.cmp.Ordering.{Ordering}
-use Rattle.std.specs.declared.cmp.Ordering.TheVariants.{Less, Equal, Greater}
+use Rattle.std.specs.declared.cmp.Ordering.TheVariants.{Equal}
 use Rattle.std.proofs.Math.Numerals.{add-one}
 use Rattle.std.proofs.lemmas.Bool.{cases_lt}
 use Rattle.std.proofs.lemmas.Bool.Decides.{nat_tests}
-use Rattle.std.proofs.lemmas.List.{map-append, append-nil}
+use Rattle.std.proofs.lemmas.List.{map-append}
 use Rattle.std.proofs.lemmas.List.Elements.{filter-append}
 use Rattle.std.proofs.lemmas.List.Folds.{find-append}
 use Rattle.fh_rows.specs.Rows.{rows_at, are_in_order}
@@ -35,7 +34,7 @@ in_turn-filter p (suc n) rows =
     ∙ ap (λ back. in_turn n (filter p rows) ++ back) (filter-filter p (λ run. is_eq (by_number (n + 1) run)) rows)
 
 pub in_turn-map : (change : Running → Running) → ((run : Running) → (change run).invocation ≡ run.invocation)
-  → (n : ℕ) (rows : List Running) → map change (in_turn n rows) ≡ in_turn n (map change rows)
+    → (n : ℕ) (rows : List Running) → map change (in_turn n rows) ≡ in_turn n (map change rows)
 in_turn-map change same zero rows = refl
 in_turn-map change same (suc n) rows =
     map-append change (in_turn n rows) (rows_at (by_number (n + 1)) rows)
@@ -55,8 +54,8 @@ module _ (p : Running → Bool) (rows : List Running) where
 
   -- nothing among those of lower numbers, so what is found among those of this one
   pub find-first : (n place : ℕ) (run : Running) → place < n
-    → ((i : ℕ) → i < place → find p (rows_at (by_number (i + 1)) rows) ≡ None)
-    → find p (rows_at (by_number (place + 1)) rows) ≡ Some run → find p (in_turn n rows) ≡ Some run
+      → ((i : ℕ) → i < place → find p (rows_at (by_number (i + 1)) rows) ≡ None)
+      → find p (rows_at (by_number (place + 1)) rows) ≡ Some run → find p (in_turn n rows) ≡ Some run
   find-first zero place run below none here = absurd (omega (arith, below))
   find-first (suc n) place run below none here = ⊎_elim (λ lower. among (find-first n place run lower none here)) (λ upper. at_it (omega (arith, below, upper))) (cases_lt place n)
     where
@@ -100,8 +99,8 @@ up_to-next n (run ∷ runs) up = by_tests (nat_le run.invocation n) (run.invocat
     at b is = is_eq-nat_cmp run.invocation (n + 1) ∙ is
 
     by_tests : (low same : Bool) → nat_le run.invocation n ≡ low → (run.invocation == n + 1) ≡ same
-      → up_to (n + 1) runs ≡ up_to n runs ++ rows_at (by_number (n + 1)) runs
-      → up_to (n + 1) (run ∷ runs) ≡ (if low then run ∷ up_to n runs else up_to n runs) ++ rows_at (by_number (n + 1)) (run ∷ runs)
+        → up_to (n + 1) runs ≡ up_to n runs ++ rows_at (by_number (n + 1)) runs
+        → up_to (n + 1) (run ∷ runs) ≡ (if low then run ∷ up_to n runs else up_to n runs) ++ rows_at (by_number (n + 1)) (run ∷ runs)
     by_tests true true low same rest = absurd (grind (arith, nat_tests, low, same))
     by_tests true false low same rest =
         let upto : nat_le run.invocation (n + 1) ≡ true = grind (arith, nat_tests, low) in
@@ -144,7 +143,7 @@ module _ (functions : List ℕ) where
     rising_behind run passes (later ∷ rows) all = by_test (p later) refl (rising_behind run passes rows (second_of_both _ _ all))
       where
         by_test : (b : Bool) → p later ≡ b → list_all (λ later. nat_le run.invocation later.invocation) (filter p rows) ≡ true
-          → list_all (λ later. nat_le run.invocation later.invocation) (if b then later ∷ filter p rows else filter p rows) ≡ true
+            → list_all (λ later. nat_le run.invocation later.invocation) (if b then later ∷ filter p rows else filter p rows) ≡ true
         by_test true is rest = both _ _ (up run later passes is (first_of_both _ _ all)) rest
         by_test false is rest = rest
 
@@ -157,7 +156,7 @@ module _ (functions : List ℕ) where
         by_test false is rest = rest
 
     kept_in_turn : (rows : List Running) → are_in_order order rows ≡ true → list_all (is_known functions) rows ≡ true
-      → filter p (in_turn (length functions) rows) ≡ filter p rows
+        → filter p (in_turn (length functions) rows) ≡ filter p rows
     kept_in_turn rows ordered known =
         in_turn-filter p (length functions) rows
         ∙ in_turn-same (filter p rows) (rising rows ordered) (list_all-filter (is_known functions) p rows known)
@@ -202,24 +201,24 @@ module _ (functions : List ℕ) where
 
   -- none of its number stands behind one
   none_behind : (run : Running) → is_known functions run ≡ true → (rows : List Running) → list_all (λ later. is_lt (order run later)) rows ≡ true
-    → list_all (is_known functions) rows ≡ true → rows_at (by_number run.invocation) rows ≡ []
+      → list_all (is_known functions) rows ≡ true → rows_at (by_number run.invocation) rows ≡ []
   none_behind run is [] all known = refl
   none_behind run is (later ∷ rows) all known =
       by_test (is_eq (by_number run.invocation later)) refl (none_behind run is rows (second_of_both _ _ all) (second_of_both _ _ known))
     where
       by_test : (b : Bool) → is_eq (by_number run.invocation later) ≡ b → rows_at (by_number run.invocation) rows ≡ []
-        → (if b then later ∷ rows_at (by_number run.invocation) rows else rows_at (by_number run.invocation) rows) ≡ []
+          → (if b then later ∷ rows_at (by_number run.invocation) rows else rows_at (by_number run.invocation) rows) ≡ []
       by_test true same rest = absurd (apart_by_number functions run later is (first_of_both _ _ known) (first_of_both _ _ all) (sym (eq-nat_cmp later.invocation run.invocation same)))
       by_test false other rest = rest
 
   -- one of a number at most
   pub alone : (i : ℕ) (rows : List Running) → are_in_order order rows ≡ true → list_all (is_known functions) rows ≡ true
-    → rows_at (by_number i) rows ≡ option_to_list (run_of i rows)
+      → rows_at (by_number i) rows ≡ option_to_list (run_of i rows)
   alone i [] ordered known = refl
   alone i (run ∷ rows) ordered known = by_test (is_eq (by_number i run)) refl (alone i rows (second_of_both _ _ ordered) (second_of_both _ _ known))
     where
       by_test : (b : Bool) → is_eq (by_number i run) ≡ b → rows_at (by_number i) rows ≡ option_to_list (run_of i rows)
-        → (if b then run ∷ rows_at (by_number i) rows else rows_at (by_number i) rows) ≡ option_to_list (if b then Some run else run_of i rows)
+          → (if b then run ∷ rows_at (by_number i) rows else rows_at (by_number i) rows) ≡ option_to_list (if b then Some run else run_of i rows)
       by_test true here rest =
           ap (λ more. run ∷ more)
           (ap (λ n. rows_at (by_number n) rows) (sym (eq-nat_cmp run.invocation i here)) ∙ none_behind run (first_of_both _ _ known) rows (first_of_both _ _ ordered) (second_of_both _ _ known))

@@ -10,7 +10,7 @@ use Rattle.std.proofs.lemmas.Bool.{cases_lt}
 use Rattle.std.proofs.lemmas.Bool.Decides.{nat_tests}
 use Rattle.std.proofs.lemmas.List.Elements.{filter-append}
 use Rattle.std.proofs.lemmas.List.Folds.{list_all-map}
-use Rattle.fh_rows.specs.Rows.{row_at, rows_at, with_row, with_change_at, without_row_at, are_in_order}
+use Rattle.fh_rows.specs.Rows.{row_at, rows_at, with_row, with_change_at, without_row_at}
 use Rattle.fh_rows.proofs.Order.{both, first_of_both, second_of_both, list_all-filter, list_all-weaker, list_all-append, parts-apart, in_order-with, in_order-filter, in_order-changed}
 use Rattle.fh_rows.proofs.Lawful.{find-passes}
 use Rattle.fh_dispatch.specs.declared.running.Running.{Running}
@@ -18,7 +18,7 @@ use Rattle.fh_dispatch.specs.Invocations.{by_number, by_function, by_run, run_of
 use Rattle.fh_dispatch.specs.Runs.{order, runs_total, renewed_key, in_turn, function_at, is_known, key_of, key_at, IsIndexed, HasKey, HasNoKeys, key_without, IsLengthened}
 use Rattle.fh_dispatch.proofs.Filters.{filter-kept, filter-dropped, filter-filter, filter-map, find-head, head, filter-alike, find-alike, map-alike}
 use Rattle.fh_dispatch.proofs.Keys.{is_eq-nat_cmp, eq-nat_cmp, ne-nat_cmp, is_ne-as_eq, known_at, known_from, known-append, function_at-within, function_at-next, by_run-number}
-use Rattle.fh_dispatch.proofs.InTurn.{in_turn-next, in_turn-none, in_turn-filter, in_turn-map, find-none, find-first, rows_at-number, run_of-number, alone}
+use Rattle.fh_dispatch.proofs.InTurn.{in_turn-next, in_turn-map, find-none, find-first, rows_at-number, run_of-number, alone}
 
 -- ---- where no row passes
 
@@ -33,7 +33,7 @@ module _ (place : Running → Ordering) where
   without-none (run ∷ rows) none = by_test (is_eq (place run)) refl none (without-none rows)
     where
       by_test : (b : Bool) → is_eq (place run) ≡ b → (if b then run ∷ rows_at place rows else rows_at place rows) ≡ []
-        → (rows_at place rows ≡ [] → without_row_at place rows ≡ rows) → without_row_at place (run ∷ rows) ≡ run ∷ rows
+          → (rows_at place rows ≡ [] → without_row_at place rows ≡ rows) → without_row_at place (run ∷ rows) ≡ run ∷ rows
       by_test true is none rest = cc
       by_test false is none rest = rw (is_ne-as_eq (place run) false is) (ap (λ more. run ∷ more) (rest none))
 
@@ -42,8 +42,8 @@ module _ (place : Running → Ordering) where
   change-none change (run ∷ rows) none = by_test (is_eq (place run)) none (change-none change rows)
     where
       by_test : (b : Bool) → (if b then run ∷ rows_at place rows else rows_at place rows) ≡ []
-        → (rows_at place rows ≡ [] → with_change_at place change rows ≡ rows)
-        → (if b then change run else run) ∷ with_change_at place change rows ≡ run ∷ rows
+          → (rows_at place rows ≡ [] → with_change_at place change rows ≡ rows)
+          → (if b then change run else run) ∷ with_change_at place change rows ≡ run ∷ rows
       by_test true none rest = cc
       by_test false none rest = ap (λ more. run ∷ more) (rest none)
 
@@ -56,7 +56,7 @@ filter-nothing [] = refl
 filter-nothing (run ∷ rows) = filter-nothing rows
 
 in_turn-alike : (n : ℕ) (rows others : List Running)
-  → ((i : ℕ) → i < n → rows_at (by_number (i + 1)) rows ≡ rows_at (by_number (i + 1)) others) → in_turn n rows ≡ in_turn n others
+    → ((i : ℕ) → i < n → rows_at (by_number (i + 1)) rows ≡ rows_at (by_number (i + 1)) others) → in_turn n rows ≡ in_turn n others
 in_turn-alike zero rows others alike = refl
 in_turn-alike (suc n) rows others alike = rw (in_turn-alike n rows others (λ i below. alike i (omega (arith, below))), alike n (omega arith)) refl
 
@@ -103,7 +103,7 @@ module _ (rows : List Running) (functions dues : List ℕ) (indexed : IsIndexed 
   -- ---- an end
 
   pub indexed-without : (i : ℕ) (changed : List ℕ) → length changed ≡ length dues → HasKey i 18446744073709551615 dues changed
-    → IsIndexed (without_row_at (by_number i) rows) functions changed
+      → IsIndexed (without_row_at (by_number i) rows) functions changed
   indexed-without i changed same key = record {
     ordered = in_order-filter order (λ run. is_ne (by_number i run)) rows indexed.ordered;
     known = list_all-filter (is_known functions) (λ run. is_ne (by_number i run)) rows indexed.known;
@@ -114,7 +114,7 @@ module _ (rows : List Running) (functions dues : List ℕ) (indexed : IsIndexed 
       at_each j below = by_same (j + 1 == i) refl (key j below)
         where
           by_same : (same : Bool) → (j + 1 == i) ≡ same → slice_index changed j ≡ (if same then 18446744073709551615 else slice_index dues j)
-            → slice_index changed j ≡ key_at (rows_at (by_number (j + 1)) (without_row_at (by_number i) rows))
+              → slice_index changed j ≡ key_at (rows_at (by_number (j + 1)) (without_row_at (by_number i) rows))
           by_same true same to =
               let at : j + 1 ≡ i = grind (arith, nat_tests, same) in
               to ∙ sym (ap key_at (filter-dropped (λ run. is_eq (by_number (j + 1) run)) (λ run. is_ne (by_number i run)) (λ run keeps. ap (λ n. is_eq (by_number n run)) at ∙ eq_as_ne (by_number i run) keeps) rows))
@@ -160,7 +160,7 @@ module _ (rows : List Running) (functions dues : List ℕ) (indexed : IsIndexed 
     all_known runs known = list_all-weaker (is_known functions) (λ run. is_known functions (renews run)) (λ run is. same_function run ∙ is) runs known
 
     pub indexed-renewed : (run : Running) → run_of i running ≡ Some run → (changed : List ℕ) → length changed ≡ length dues
-      → HasKey i (key_of due) dues changed → IsIndexed renewed_rows functions changed
+        → HasKey i (key_of due) dues changed → IsIndexed renewed_rows functions changed
     indexed-renewed run here changed same key = record {
       ordered = in_order-changed order runs_total (renewed receipt due) (renewed_key receipt due) (by_number i) rows indexed.ordered;
       known = list_all-map (is_known functions) renews rows ∙ all_known rows indexed.known;
@@ -181,7 +181,7 @@ module _ (rows : List Running) (functions dues : List ℕ) (indexed : IsIndexed 
         at_each j below = by_same (j + 1 == i) refl (key j below)
           where
             by_same : (same : Bool) → (j + 1 == i) ≡ same → slice_index changed j ≡ (if same then key_of due else slice_index dues j)
-              → slice_index changed j ≡ key_at (rows_at (by_number (j + 1)) renewed_rows)
+                → slice_index changed j ≡ key_at (rows_at (by_number (j + 1)) renewed_rows)
             by_same true same to =
                 let at : j + 1 ≡ i = grind (arith, nat_tests, same) in
                 to ∙ sym (ap (λ n. key_at (rows_at (by_number n) renewed_rows)) at ∙ ap key_at (rows_at-renewed i) ∙ own)
@@ -260,7 +260,7 @@ module _ (rows : List Running) (functions dues : List ℕ) (indexed : IsIndexed 
     own_known = known_from more_functions run (ap (function_at more_functions) number ∙ function_at-next functions run.function)
 
     pub indexed-begun : (changed : List ℕ) → length changed ≡ length dues → HasKey run.invocation (key_of run.due) dues changed
-      → IsIndexed more_rows more_functions changed
+        → IsIndexed more_rows more_functions changed
     indexed-begun changed same key = record {
       ordered = in_order-with order runs_total run rows indexed.ordered;
       known =
@@ -274,7 +274,7 @@ module _ (rows : List Running) (functions dues : List ℕ) (indexed : IsIndexed 
         at_each j below = by_same (j + 1 == run.invocation) refl (key j below)
           where
             by_same : (same : Bool) → (j + 1 == run.invocation) ≡ same → slice_index changed j ≡ (if same then key_of run.due else slice_index dues j)
-              → slice_index changed j ≡ key_at (rows_at (by_number (j + 1)) more_rows)
+                → slice_index changed j ≡ key_at (rows_at (by_number (j + 1)) more_rows)
             by_same true same to =
                 let at : j + 1 ≡ run.invocation = grind (arith, nat_tests, same) in
                 to ∙ sym (ap (λ n. key_at (rows_at (by_number n) more_rows)) at ∙ ap key_at rows_at-begun)
@@ -293,12 +293,12 @@ module _ (rows : List Running) (functions dues : List ℕ) (indexed : IsIndexed 
       at_each j below = by_rows (rows_at (by_number (j + 1)) rows) (keys j below) (indexed.keyed j below)
         where
           by_rows : (there : List Running) → slice_index changed j ≡ key_without there (slice_index dues j) → slice_index dues j ≡ key_at there
-            → slice_index changed j ≡ 18446744073709551615
+              → slice_index changed j ≡ 18446744073709551615
           by_rows [] to was = to ∙ was
           by_rows (run ∷ there) to was = to
 
   pub indexed-dropped : (f : ℕ) (changed : List ℕ) → length changed ≡ length dues → HasNoKeys (runs_of f rows) dues changed
-    → IsIndexed (without_row_at (by_function f) rows) functions changed
+      → IsIndexed (without_row_at (by_function f) rows) functions changed
   indexed-dropped f changed same keys = record {
     ordered = in_order-filter order (λ run. is_ne (by_function f run)) rows indexed.ordered;
     known = list_all-filter (is_known functions) (λ run. is_ne (by_function f run)) rows indexed.known;
@@ -313,14 +313,14 @@ module _ (rows : List Running) (functions dues : List ℕ) (indexed : IsIndexed 
           ∙ sym (ap key_at (filter-filter (λ run. is_eq (by_number (j + 1) run)) (λ run. is_ne (by_function f run)) rows))
         where
           by_test : (run : Running) (b : Bool) → is_eq (by_function f run) ≡ b
-            → slice_index changed j ≡ key_without (if b then run ∷ [] else []) (slice_index dues j) → slice_index dues j ≡ key_of run.due
-            → slice_index changed j ≡ key_at (without_row_at (by_function f) (run ∷ []))
+              → slice_index changed j ≡ key_without (if b then run ∷ [] else []) (slice_index dues j) → slice_index dues j ≡ key_of run.due
+              → slice_index changed j ≡ key_at (without_row_at (by_function f) (run ∷ []))
           by_test run true is to was = rw (is_ne-as_eq (by_function f run) true is) to
           by_test run false is to was = rw (is_ne-as_eq (by_function f run) false is) (to ∙ was)
 
           by_found : (found : Option Running) (there : List Running) → there ≡ option_to_list found
-            → slice_index changed j ≡ key_without (runs_of f there) (slice_index dues j) → slice_index dues j ≡ key_at there
-            → slice_index changed j ≡ key_at (without_row_at (by_function f) there)
+              → slice_index changed j ≡ key_without (runs_of f there) (slice_index dues j) → slice_index dues j ≡ key_at there
+              → slice_index changed j ≡ key_at (without_row_at (by_function f) there)
           by_found None there is to was = rw is (to ∙ rw is (was ∙ rw is refl))
           by_found (Some run) there is to was = rw is (by_test run (is_eq (by_function f run)) refl (to ∙ rw is refl) (was ∙ rw is refl))
 
@@ -364,7 +364,7 @@ module _ (rows : List Running) (functions dues : List ℕ) (indexed : IsIndexed 
     none_at i below above = by_found (run_of (i + 1) rows) refl (alone functions (i + 1) rows indexed.ordered indexed.known) (indexed.keyed i below)
       where
         by_found : (found : Option Running) → run_of (i + 1) rows ≡ found → rows_at (by_number (i + 1)) rows ≡ option_to_list found
-          → slice_index dues i ≡ key_at (rows_at (by_number (i + 1)) rows) → find p (rows_at (by_number (i + 1)) rows) ≡ None
+            → slice_index dues i ≡ key_at (rows_at (by_number (i + 1)) rows) → find p (rows_at (by_number (i + 1)) rows) ≡ None
         by_found None here is key = rw is refl
         by_found (Some run) here is key = rw is (by_test (p run) refl)
           where
@@ -382,8 +382,8 @@ module _ (rows : List Running) (functions dues : List ℕ) (indexed : IsIndexed 
     none-due enough above = find-none p rows (length functions) (λ i below. none_at i (omega (arith, below, enough)) (λ low. above i low (omega (arith, below, enough))))
 
     pub first-due : (number : ℕ) → most < 18446744073709551615 → 1 ≤ number → number ≤ length dues → slice_index dues (number - 1) ≤ most
-      → ((run : Running) → run.invocation ≡ number → key_of run.due ≤ most → p run ≡ true)
-      → ((i : ℕ) → from ≤ i + 1 → i + 1 < number → most < slice_index dues i) → find p running ≡ run_of number running
+        → ((run : Running) → run.invocation ≡ number → key_of run.due ≤ most → p run ≡ true)
+        → ((i : ℕ) → from ≤ i + 1 → i + 1 < number → most < slice_index dues i) → find p running ≡ run_of number running
     first-due number bound low high due tells above =
         by_found (run_of place_number rows) refl (alone functions place_number rows indexed.ordered indexed.known) (indexed.keyed place (omega (arith, low, high)))
       where
@@ -397,7 +397,7 @@ module _ (rows : List Running) (functions dues : List ℕ) (indexed : IsIndexed 
         same = omega (arith, low)
 
         by_found : (found : Option Running) → run_of place_number rows ≡ found → rows_at (by_number place_number) rows ≡ option_to_list found
-          → slice_index dues place ≡ key_at (rows_at (by_number place_number) rows) → find p running ≡ run_of number running
+            → slice_index dues place ≡ key_at (rows_at (by_number place_number) rows) → find p running ≡ run_of number running
         by_found None here is key = let own = key ∙ ap key_at is in absurd (omega (arith, own, due, bound))
         by_found (Some run) here is key =
             let given : run.invocation ≡ number = eq-nat_cmp run.invocation place_number (find-passes (λ run. is_eq (by_number place_number run)) rows run here) ∙ same in
@@ -413,7 +413,7 @@ module _ (rows : List Running) (functions dues : List ℕ) (indexed : IsIndexed 
   -- ---- the one of the least number
 
   pub lowest-is : (number : ℕ) → 1 ≤ number → number ≤ length dues → slice_index dues (number - 1) ≤ 18446744073709551614
-    → find (λ run. true) running ≡ run_of number running → lowest running ≡ Some number
+      → find (λ run. true) running ≡ run_of number running → lowest running ≡ Some number
   lowest-is number low high due first = by_runs running refl
     where
       same : number - 1 + 1 ≡ number
@@ -466,7 +466,7 @@ module _ (from most : ℕ) (bound : most < 18446744073709551614) (run : Running)
       (grind (arith, nat_tests, late), due-key run.due most bound le)
 
   pub due-tells : (number : ℕ) → from ≤ number → run.invocation ≡ number → key_of run.due ≤ most
-    → (nat_le from run.invocation && nat_le run.due most) ≡ true
+      → (nat_le from run.invocation && nat_le run.due most) ≡ true
   due-tells number late same key =
       let from_late : nat_le from run.invocation ≡ true = grind (arith, nat_tests, late, same) in
       let le : run.due ≤ most = key-due run.due most bound key in
@@ -476,7 +476,7 @@ module _ (from most : ℕ) (bound : most < 18446744073709551614) (run : Running)
 -- ---- keys that go, one by one
 
 pub no_keys-next : (gone : List Running) (run : Running) (dues mid changed : List ℕ) → length mid ≡ length dues → HasNoKeys gone dues mid
-  → HasKey run.invocation 18446744073709551615 mid changed → HasNoKeys (gone ++ run ∷ []) dues changed
+    → HasKey run.invocation 18446744073709551615 mid changed → HasNoKeys (gone ++ run ∷ []) dues changed
 no_keys-next gone run dues mid changed same before key i below =
     by_same (is_eq (by_number (i + 1) run)) refl (i + 1 == run.invocation) refl (before i below) (key i (omega (arith, below, same)))
     ∙ sym (ap (λ there. key_without there (slice_index dues i)) (filter-append (λ other. is_eq (by_number (i + 1) other)) gone (run ∷ [])))
@@ -490,9 +490,9 @@ no_keys-next gone run dues mid changed same before key i below =
     alone_there (other ∷ there) = refl
 
     by_same : (b : Bool) → is_eq (by_number (i + 1) run) ≡ b → (t : Bool) → (i + 1 == run.invocation) ≡ t
-      → slice_index mid i ≡ key_without (rows_at (by_number (i + 1)) gone) (slice_index dues i)
-      → slice_index changed i ≡ (if t then 18446744073709551615 else slice_index mid i)
-      → slice_index changed i ≡ key_without (rows_at (by_number (i + 1)) gone ++ (if b then run ∷ [] else [])) (slice_index dues i)
+        → slice_index mid i ≡ key_without (rows_at (by_number (i + 1)) gone) (slice_index dues i)
+        → slice_index changed i ≡ (if t then 18446744073709551615 else slice_index mid i)
+        → slice_index changed i ≡ key_without (rows_at (by_number (i + 1)) gone ++ (if b then run ∷ [] else [])) (slice_index dues i)
     by_same true here true test was to = to ∙ sym (joined (rows_at (by_number (i + 1)) gone))
     by_same false other false test was to = to ∙ was ∙ alone_there (rows_at (by_number (i + 1)) gone)
     by_same true here false test was to = let at = eq-nat_cmp run.invocation (i + 1) here in absurd (grind (arith, nat_tests, test, at))

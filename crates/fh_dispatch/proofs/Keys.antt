@@ -1,5 +1,5 @@
 -- What the tests by number and by function tell, also of invocations that were begun as ones of their functions.
-use Rattle.std.proofs.Common.{◌≡◌, ℕ, zero, suc, ◌+◌, ◌-◌, ◌<◌, ◌≤◌, Bool, true, false, List, [], ◌∷◌, ◌++◌, length, Option, Some, None, refl, ap, sym, ◌∙◌, arith}
+use Rattle.std.proofs.Common.{◌≡◌, ℕ, zero, suc, ◌+◌, ◌-◌, ◌≤◌, Bool, true, false, List, [], ◌∷◌, ◌++◌, length, Option, Some, None, refl, ap, sym, ◌∙◌, arith}
 use Rattle.std.specs.Prelude.{◌==◌, nat_lt, if◌then◌else◌}
 use Rattle.std.specs.List.{slice_get}
 use Rattle.std.specs.Ordering.{is_lt, is_eq, is_ne, nat_cmp, ordering_then}
@@ -16,7 +16,7 @@ pub is_eq-nat_cmp : (x y : ℕ) → is_eq (nat_cmp x y) ≡ (x == y)
 is_eq-nat_cmp x y = by_tests (nat_lt x y) (x == y) refl refl
   where
     by_tests : (below same : Bool) → nat_lt x y ≡ below → (x == y) ≡ same
-      → is_eq (if below then Less else (if same then Equal else Greater)) ≡ same
+        → is_eq (if below then Less else (if same then Equal else Greater)) ≡ same
     by_tests true true below same = absurd (grind (arith, nat_tests, below, same))
     by_tests true false below same = refl
     by_tests false true below same = refl
@@ -96,7 +96,7 @@ module _ (functions : List ℕ) (f i : ℕ) where
 
   -- where the number is one of the function, the number alone tells
   pub by_run-number : function_at functions i ≡ Some f → (run : Running) → is_known functions run ≡ true
-    → is_eq (by_run f i run) ≡ is_eq (by_number i run)
+      → is_eq (by_run f i run) ≡ is_eq (by_number i run)
   by_run-number at run known = by_test (is_eq (by_number i run)) refl
     where
       apart : (first second : Ordering) → is_eq second ≡ false → is_eq (ordering_then first second) ≡ false
@@ -113,7 +113,7 @@ module _ (functions : List ℕ) (f i : ℕ) where
 
 -- of two that were begun so, one stands before the other only where their numbers differ
 pub apart_by_number : (functions : List ℕ) (run later : Running) → is_known functions run ≡ true
-  → is_known functions later ≡ true → is_lt (order run later) ≡ true → run.invocation ≡ later.invocation → ⊥
+    → is_known functions later ≡ true → is_lt (order run later) ≡ true → run.invocation ≡ later.invocation → ⊥
 apart_by_number functions run later known known_later apart same = before (ap is_lt alike ∙ apart')
   where
     own : run.function ≡ later.function

@@ -1,5 +1,5 @@
 -- How running invocations are found: by function and number, by number alone, and by when they are due.
-use Rattle.std.specs.Prelude.{◌≡◌, ℕ, zero, suc, ◌+◌, ◌-◌, ◌<◌, ◌≤◌, ◌==◌, nat_le, Bool, true, false, ◌&&◌, if◌then◌else◌, List, [], ◌∷◌, ◌++◌, length, slice_index, Option, Some, None, refl}
+use Rattle.std.specs.Prelude.{◌≡◌, ℕ, zero, suc, ◌+◌, ◌-◌, ◌<◌, ◌≤◌, ◌==◌, nat_le, Bool, true, false, if◌then◌else◌, List, [], ◌∷◌, ◌++◌, length, slice_index, Option, Some, None, refl}
 use Rattle.std.proofs.Common.{sym, ap, ◌∙◌}
 use Rattle.std.specs.List.{list_all, slice_get}
 use Rattle.std.specs.Cmp.{IsTotalOrder, then_total, on_total, nat_cmp_total}
@@ -41,7 +41,7 @@ functions_span function = record { inside = inside; before = before }
     behind Greater is = refl
 
     inside : (row later : Running) → order row later ≡ Less → by_function function later ≡ Equal
-      → is_gt (by_function function row) ≡ true → ⊥
+        → is_gt (by_function function row) ≡ true → ⊥
     inside row later apart here gt =
         let total = nat_cmp_total in
         let turned : nat_cmp row.function function ≡ nat_cmp row.function later.function =
@@ -51,14 +51,14 @@ functions_span function = record { inside = inside; before = before }
         (sym turned ∙ behind (nat_cmp row.function function) gt)
 
     by_first : (o : Ordering) (row later : Running) → nat_cmp row.function later.function ≡ o
-      → ordering_then o (nat_cmp row.invocation later.invocation) ≡ Less → by_function function later ≡ Less
-      → by_function function row ≡ Less
+        → ordering_then o (nat_cmp row.invocation later.invocation) ≡ Less → by_function function later ≡ Less
+        → by_function function row ≡ Less
     by_first Less row later is apart front = nat_cmp_total.trans row.function later.function function is front
     by_first Equal row later is apart front = nat_cmp_total.congr row.function later.function function is ∙ front
     by_first Greater row later is apart front = cc
 
     before : (row later : Running) → order row later ≡ Less → by_function function later ≡ Less
-      → by_function function row ≡ Less
+        → by_function function row ≡ Less
     before row later apart front = by_first (nat_cmp row.function later.function) row later refl apart front
 
 -- those of the numbers from 1 up to n, in order of number

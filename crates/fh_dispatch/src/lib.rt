@@ -8,7 +8,11 @@
 //! nothing, both without memory. `function_of`, `timer_of`, `jobs_of` and `in_work` read; `note_text` is the
 //! text by which a function is told of a blob. `laws` says that a function keeps its number, that numbers are
 //! given in turn, each once, that other functions and their jobs stay as they are, and that a function has one
-//! run ready at most. Read `specs/Part.antt`, `Ready.antt`, `Rules.antt`, `Outcome.antt`, `Queues.antt` and
+//! run ready at most.
+//!
+//! `Invocations` are the running ones, in order of number; the work doesn't hold them yet. Contracts see the list.
+//! Those of a function, one of a number, and the first one from a number on that is due, are found in the logarithm
+//! of all; after `reserve` no change takes memory. Read `specs/Invocations.antt` for them. Read `specs/Part.antt`, `Ready.antt`, `Rules.antt`, `Outcome.antt`, `Queues.antt` and
 //! `Timers.antt` first.
 #![tactic(auto)]
 
