@@ -392,6 +392,14 @@ numbers_in_turn part ask m after answer h is =
     let holds = subst (λ (p : WorkPart). GivesNumbersInTurn part 0 ask p answer) by.made by.holds in
     record { new = holds.new; stays = holds.stays }
 
+-- what each way makes so at moment 0 holds of each ask, where the law doesn't look at the moment
+by_each_way : (law : WorkPart → ℕ → Ask → WorkPart → WorkDone → Type 0)
+  → ((part : WorkPart) → Ways (λ ask acts answer. law part 0 ask (by_acts part acts) answer) part)
+  → OfEachAsk (λ part m ask after answer. law part 0 ask after answer)
+by_each_way law ways part ask m after answer h is =
+    let by = by_ways (λ ask acts answer. law part 0 ask (by_acts part acts) answer) part (ways part) after answer ask m is in
+    subst (λ (p : WorkPart). law part 0 ask p answer) by.made by.holds
+
 -- ---- what is stored
 
 module _ (part : WorkPart) where
@@ -416,14 +424,10 @@ module _ (part : WorkPart) where
       skipped false new before is = refl
 
 pub as_configured : OfEachAsk IsAsConfigured
-as_configured part ask m after answer h is =
-    let by = by_ways (Stores part) part (store_ways part) after answer ask m is in
-    subst (λ (p : WorkPart). IsAsConfigured part m ask p answer) by.made by.holds
+as_configured = by_each_way IsAsConfigured store_ways
 
 pub keeps_unnamed : OfEachAsk KeepsUnnamed
-keeps_unnamed part ask m after answer h is =
-    let by = by_ways (KeepsRows part) part (row_ways part) after answer ask m is in
-    subst (λ (p : WorkPart). KeepsUnnamed part m ask p answer) by.made by.holds
+keeps_unnamed = by_each_way KeepsUnnamed row_ways
 
 -- ---- whole parts
 
@@ -546,14 +550,10 @@ module _ (part : WorkPart) where
       others f g other false = refl
 
 pub jobs_as_asked : OfEachAsk HasJobsAsAsked
-jobs_as_asked part ask m after answer h is =
-    let by = by_ways (Jobs part) part (job_ways part) after answer ask m is in
-    subst (λ (p : WorkPart). HasJobsAsAsked part m ask p answer) by.made by.holds
+jobs_as_asked = by_each_way HasJobsAsAsked job_ways
 
 pub keeps_other_jobs : OfEachAsk KeepsOtherJobs
-keeps_other_jobs part ask m after answer h is =
-    let by = by_ways (KeepsJobs part) part (other_ways part) after answer ask m is in
-    subst (λ (p : WorkPart). KeepsOtherJobs part m ask p answer) by.made by.holds
+keeps_other_jobs = by_each_way KeepsOtherJobs other_ways
 
 pub keeps_one_job : OfEachAsk KeepsOneJob
 keeps_one_job part ask m after answer h is finds f one = by_test (is_about part f ask) refl

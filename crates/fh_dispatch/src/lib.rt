@@ -12,8 +12,10 @@
 //!
 //! `Invocations` are the running ones, in order of number; the work doesn't hold them yet. Contracts see the list.
 //! Those of a function, one of a number, and the first one from a number on that is due, are found in the logarithm
-//! of all; after `reserve` no change takes memory. Read `specs/Invocations.antt` for them. Read `specs/Part.antt`, `Ready.antt`, `Rules.antt`, `Outcome.antt`, `Queues.antt` and
-//! `Timers.antt` first.
+//! of all; after `reserve` no change takes memory.
+//!
+//! Read `specs/Part.antt`, `Ready.antt`, `Rules.antt`, `Outcome.antt`, `Queues.antt`, `Timers.antt` and
+//! `Invocations.antt` first.
 #![tactic(auto)]
 
 mod act;
