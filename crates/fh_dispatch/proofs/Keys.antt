@@ -25,9 +25,6 @@ is_eq-nat_cmp x y = by_tests (nat_lt x y) (x == y) refl refl
 pub eq-nat_cmp : (x y : ℕ) → is_eq (nat_cmp x y) ≡ true → x ≡ y
 eq-nat_cmp x y is = let same = sym (is_eq-nat_cmp x y) ∙ is in grind (arith, nat_tests, same)
 
-pub ne-nat_cmp : (x y : ℕ) → is_eq (nat_cmp x y) ≡ false → (x ≡ y) → ⊥
-ne-nat_cmp x y is same = let apart = sym (is_eq-nat_cmp x y) ∙ is in grind (arith, nat_tests, apart, same)
-
 pub nat_cmp-same : (x : ℕ) → nat_cmp x x ≡ Equal
 nat_cmp-same x = equal (nat_cmp x x) (is_eq-nat_cmp x x ∙ itself)
   where
@@ -46,7 +43,8 @@ is_ne-as_eq Greater b is = rw (sym is) refl
 
 -- ---- functions by the numbers of invocations
 
-pub function_at-within : (functions : List ℕ) (i f : ℕ) → function_at functions i ≡ Some f → (1 ≤ i) × (i ≤ length functions)
+pub function_at-within : (functions : List ℕ) (i f : ℕ) → function_at functions i ≡ Some f
+    → (1 ≤ i) × (i ≤ length functions)
 function_at-within functions zero f is = cc
 function_at-within functions (suc i) f is =
     let within = slice_get_within functions i f is in (omega arith, omega (arith, within))
@@ -67,26 +65,31 @@ slice_get-last : (xs : List ℕ) (x : ℕ) → slice_get (xs ++ x ∷ []) (lengt
 slice_get-last [] x = refl
 slice_get-last (y ∷ xs) x = slice_get-last xs x
 
-pub function_at-append : (functions : List ℕ) (g i f : ℕ) → function_at functions i ≡ Some f → function_at (functions ++ g ∷ []) i ≡ Some f
+pub function_at-append : (functions : List ℕ) (g i f : ℕ) → function_at functions i ≡ Some f
+    → function_at (functions ++ g ∷ []) i ≡ Some f
 function_at-append functions g zero f is = cc
 function_at-append functions g (suc i) f is = slice_get-append functions (g ∷ []) i f is
 
 pub function_at-next : (functions : List ℕ) (g : ℕ) → function_at (functions ++ g ∷ []) (length functions + 1) ≡ Some g
 function_at-next functions g = function_at-place (functions ++ g ∷ []) (length functions) ∙ slice_get-last functions g
 
-pub known_at : (functions : List ℕ) (run : Running) → is_known functions run ≡ true → function_at functions run.invocation ≡ Some run.function
+pub known_at : (functions : List ℕ) (run : Running) → is_known functions run ≡ true
+    → function_at functions run.invocation ≡ Some run.function
 known_at functions run known = by_found (function_at functions run.invocation) known
   where
     by_found : (found : Option ℕ) → is_some_of run.function found ≡ true → found ≡ Some run.function
     by_found None is = cc
     by_found (Some g) is = ap Some (grind (arith, nat_tests, is))
 
-pub known_from : (functions : List ℕ) (run : Running) → function_at functions run.invocation ≡ Some run.function → is_known functions run ≡ true
+pub known_from : (functions : List ℕ) (run : Running) → function_at functions run.invocation ≡ Some run.function
+    → is_known functions run ≡ true
 known_from functions run is = rw is (grind (arith, nat_tests))
 
-pub known-append : (functions : List ℕ) (g : ℕ) (run : Running) → is_known functions run ≡ true → is_known (functions ++ g ∷ []) run ≡ true
+pub known-append : (functions : List ℕ) (g : ℕ) (run : Running) → is_known functions run ≡ true
+    → is_known (functions ++ g ∷ []) run ≡ true
 known-append functions g run known =
-    known_from (functions ++ g ∷ []) run (function_at-append functions g run.invocation run.function (known_at functions run known))
+    known_from (functions ++ g ∷ []) run (function_at-append functions g run.invocation run.function
+    (known_at functions run known))
 
 -- ---- tests by function and number, and by number alone
 
@@ -105,7 +108,8 @@ module _ (functions : List ℕ) (f i : ℕ) where
       apart Greater second is = refl
 
       own : run.invocation ≡ i → run.function ≡ f
-      own same = let found : Some run.function ≡ Some f = sym (known_at functions run known) ∙ ap (function_at functions) same ∙ at in cc
+      own same = let found : Some run.function ≡ Some f = sym (known_at functions run known)
+          ∙ ap (function_at functions) same ∙ at in cc
 
       by_test : (b : Bool) → is_eq (by_number i run) ≡ b → is_eq (by_run f i run) ≡ b
       by_test true is = rw (own (eq-nat_cmp run.invocation i is), nat_cmp-same f) is

@@ -394,8 +394,8 @@ numbers_in_turn part ask m after answer h is =
 
 -- what each way makes so at moment 0 holds of each ask, where the law doesn't look at the moment
 by_each_way : (law : WorkPart → ℕ → Ask → WorkPart → WorkDone → Type 0)
-  → ((part : WorkPart) → Ways (λ ask acts answer. law part 0 ask (by_acts part acts) answer) part)
-  → OfEachAsk (λ part m ask after answer. law part 0 ask after answer)
+    → ((part : WorkPart) → Ways (λ ask acts answer. law part 0 ask (by_acts part acts) answer) part)
+    → OfEachAsk (λ part m ask after answer. law part 0 ask after answer)
 by_each_way law ways part ask m after answer h is =
     let by = by_ways (λ ask acts answer. law part 0 ask (by_acts part acts) answer) part (ways part) after answer ask m is in
     subst (λ (p : WorkPart). law part 0 ask p answer) by.made by.holds

@@ -45,7 +45,8 @@ functions_span function = record { inside = inside; before = before }
     inside row later apart here gt =
         let total = nat_cmp_total in
         let turned : nat_cmp row.function function ≡ nat_cmp row.function later.function =
-        total.antisymm row.function function ∙ ap ordering_reverse (sym (total.congr later.function function row.function here))
+        total.antisymm row.function function ∙ ap ordering_reverse (sym
+        (total.congr later.function function row.function here))
         ∙ sym (total.antisymm row.function later.function) in
         not_later (nat_cmp row.function later.function) (nat_cmp row.invocation later.invocation) apart
         (sym turned ∙ behind (nat_cmp row.function function) gt)

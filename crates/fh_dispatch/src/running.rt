@@ -55,7 +55,13 @@ impl Key<Running> for RunKey {
     ghost use Rattle.std.specs.Prelude.{[]};
     ghost use Rattle.fh_dispatch.specs.declared.running.Job.TheVariants.{Message};
 
-    ghost as_row = { λ key. record { invocation = key.invocation; function = key.function; name = []; job = Message 0 0; due = 0 } };
+    ghost as_row = { λ key. record {
+      invocation = key.invocation;
+      function = key.function;
+      name = [];
+      job = Message 0 0;
+      due = 0;
+    } };
 
     fn compare(&self, row: &Running) -> Ordering {
         let invocations = row.invocation.cmp(&self.invocation);

@@ -41,6 +41,7 @@ returns-clause-running c =
     let rows = c.self.inside.rows.rows in
     let i = c.args.invocation in
     let at : function_at functions i ≡ Some c.in-Some.function = search rules in
-    ap (in_turn (length functions)) (c.remove.ensures.rows ∙ without-run rows functions c.self.inside.dues c.self.invariant.indexed c.in-Some.function i at)
+    ap (in_turn (length functions)) (c.remove.ensures.rows
+    ∙ without-run rows functions c.self.inside.dues c.self.invariant.indexed c.in-Some.function i at)
     ∙ sym (in_turn-filter (λ run. is_ne (by_number i run)) (length functions) rows)
     ∙ ap (λ (s : InvocationsState). without_run i s.running) c.self.view_is

@@ -14,7 +14,8 @@ returns-in_err-invocation c =
     let none : c.first_key.result ≡ None = search rules in
     let above = subst (λ (found : Option ℕ). IsFirstKey dues c.args.from c.args.most found) none c.first_key.ensures in
     ap option_copied c.from_residual.ensures
-    ∙ sym (none-due rows functions dues was.indexed _ c.args.from c.args.most (due-passes c.args.from c.args.most c.requires) (omega (arith, was.keys)) above)
+    ∙ sym (none-due rows functions dues was.indexed _ c.args.from c.args.most
+    (due-passes c.args.from c.args.most c.requires) (omega (arith, was.keys)) above)
     ∙ ap (λ (s : InvocationsState). first_due c.args.from c.args.most s.running) c.self.view_is
 
 pub returns : goal.returns
@@ -28,5 +29,7 @@ returns c =
     let first = subst (λ (found : Option ℕ). IsFirstKey dues c.args.from c.args.most found) some c.first_key.ensures in
     c.get.ensures
     ∙ ap (λ (s : InvocationsState). run_of number s.running) (sym c.self.view_is)
-    ∙ sym (first-due rows functions dues was.indexed _ c.args.from c.args.most (due-passes c.args.from c.args.most c.requires) number (omega (arith, c.requires)) first.1 first.2 first.3 (λ run same key. due-tells c.args.from c.args.most c.requires run number first.0 same key) first.4)
+    ∙ sym (first-due rows functions dues was.indexed _ c.args.from c.args.most
+    (due-passes c.args.from c.args.most c.requires) number (omega (arith, c.requires)) first.1 first.2 first.3
+    (λ run same key. due-tells c.args.from c.args.most c.requires run number first.0 same key) first.4)
     ∙ ap (λ (s : InvocationsState). first_due c.args.from c.args.most s.running) c.self.view_is

@@ -10,7 +10,8 @@ returns-in_err-function c =
     let functions = c.self.inside.functions.items in
     let none : function_at functions c.args.invocation ≡ None = search rules in
     let missing = run_of-missing c.self.inside.rows.rows functions c.self.inside.dues c.self.invariant.indexed c.args.invocation none in
-    ap option_copied c.from_residual.ensures ∙ sym missing ∙ ap (λ (s : InvocationsState). run_of c.args.invocation s.running) c.self.view_is
+    ap option_copied c.from_residual.ensures ∙ sym missing
+    ∙ ap (λ (s : InvocationsState). run_of c.args.invocation s.running) c.self.view_is
 
 pub returns : goal.returns
 returns c =

@@ -11,9 +11,11 @@ returns-in_default-clause-running c =
     let functions = c.self.inside.functions.items in
     let rows = c.self.inside.rows.rows in
     let none : run_of i c.args.self.now.running ≡ None = search rules in
-    let missing : run_of i (in_turn (length functions) rows) ≡ None = ap (λ (s : InvocationsState). run_of i s.running) c.self.view_is ∙ none in
+    let missing : run_of i (in_turn (length functions) rows) ≡ None = ap (λ
+    (s : InvocationsState). run_of i s.running) c.self.view_is ∙ none in
     subst (λ (s : InvocationsState). s.running ≡ with_renewal i c.args.receipt c.args.due s.running) c.self.view_is
-    (sym (change-none (by_number i) (renewed c.args.receipt c.args.due) (in_turn (length functions) rows) (rows_at-gone rows functions c.self.inside.dues c.self.invariant.indexed i missing)))
+    (sym (change-none (by_number i) (renewed c.args.receipt c.args.due) (in_turn (length functions) rows)
+    (rows_at-gone rows functions c.self.inside.dues c.self.invariant.indexed i missing)))
 
 pub invariant_of-self : goal.invariant_of-self
 invariant_of-self c =
@@ -24,9 +26,11 @@ invariant_of-self c =
     let was = c.self.invariant in
     let run = c.in-Some.run'.now in
     let told : run_of i c.args.self.now.running ≡ Some run = search rules in
-    let here : run_of i (in_turn (length functions) rows) ≡ Some run = ap (λ (s : InvocationsState). run_of i s.running) c.self.view_is ∙ told in
+    let here : run_of i (in_turn (length functions) rows) ≡ Some run = ap (λ
+    (s : InvocationsState). run_of i s.running) c.self.view_is ∙ told in
     let at = function_at-found rows functions dues was.indexed i run here in
-    let after = c.change.ensures.rows ∙ change-run rows functions dues was.indexed run.function i at (renewed c.args.receipt c.args.due) in
+    let after = c.change.ensures.rows ∙ change-run rows functions dues was.indexed run.function i at
+    (renewed c.args.receipt c.args.due) in
     let key = subst (λ (k : ℕ). HasKey i k dues c.set_key.new.dues) c.key_of.ensures c.set_key.ensures.key in
     record {
       indexed =
@@ -46,8 +50,10 @@ returns-clause-running c =
     let was = c.self.invariant in
     let run = c.in-Some.run'.now in
     let told : run_of i c.args.self.now.running ≡ Some run = search rules in
-    let here : run_of i (in_turn (length functions) rows) ≡ Some run = ap (λ (s : InvocationsState). run_of i s.running) c.self.view_is ∙ told in
+    let here : run_of i (in_turn (length functions) rows) ≡ Some run = ap (λ
+    (s : InvocationsState). run_of i s.running) c.self.view_is ∙ told in
     let at = function_at-found rows functions dues was.indexed i run here in
-    ap (in_turn (length functions)) (c.change.ensures.rows ∙ change-run rows functions dues was.indexed run.function i at (renewed c.args.receipt c.args.due))
+    ap (in_turn (length functions)) (c.change.ensures.rows
+    ∙ change-run rows functions dues was.indexed run.function i at (renewed c.args.receipt c.args.due))
     ∙ sym (running-renewed rows functions dues was.indexed i c.args.receipt c.args.due)
     ∙ ap (λ (s : InvocationsState). with_renewal i c.args.receipt c.args.due s.running) c.self.view_is

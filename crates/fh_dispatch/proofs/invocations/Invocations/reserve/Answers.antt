@@ -9,7 +9,8 @@ invariant_of-self-in_err-lengthen c =
     record {
       indexed =
           rw (c.reserve.ensures.rows, functions)
-          (indexed-lengthened c.self.inside.rows.rows c.self.inside.functions.items c.self.inside.dues was.indexed (omega (arith, was.keys)) c.lengthen.new.dues c.lengthen.ensures.keys);
+          (indexed-lengthened c.self.inside.rows.rows c.self.inside.functions.items c.self.inside.dues was.indexed
+          (omega (arith, was.keys)) c.lengthen.new.dues c.lengthen.ensures.keys);
       keys = omega (arith, was.keys, ap length functions, c.lengthen.ensures.keys.no_less);
       rows_room = omega arith;
       functions_room = omega arith;
@@ -22,7 +23,8 @@ invariant_of-self-2 c =
     record {
       indexed =
           rw (c.reserve.ensures.rows, functions)
-          (indexed-lengthened c.self.inside.rows.rows c.self.inside.functions.items c.self.inside.dues was.indexed (omega (arith, was.keys)) c.lengthen.new.dues c.lengthen.ensures.keys);
+          (indexed-lengthened c.self.inside.rows.rows c.self.inside.functions.items c.self.inside.dues was.indexed
+          (omega (arith, was.keys)) c.lengthen.new.dues c.lengthen.ensures.keys);
       keys = search rules;
       rows_room = search rules;
       functions_room = search rules;

@@ -4,4 +4,5 @@ use Rattle.fh_rows.proofs.rows.Rows.remove_all.Goals as goal
 
 pub invariant_of-self : goal.invariant_of-self
 invariant_of-self g c =
-    rw c.cut.ensures.rows (in_order-filter g.R.Row.order (λ row. is_ne (g.S.Span.place c.args.span.now row)) _ c.self.invariant)
+    rw c.cut.ensures.rows (in_order-filter g.R.Row.order (λ row. is_ne
+    (g.S.Span.place c.args.span.now row)) _ c.self.invariant)
