@@ -93,7 +93,8 @@ impl<R: Row> Rows<R> {
 
     /// Changes the row at a key, where there is one. Takes no memory.
     pub fn change<K: Key<R>, C: Change<R>>(&mut self, key: &K, change: &C)
-        ensures rows { self.new.rows ≡ with_change_at (λ row. R.order row (K.as_row key.now)) (C.changed change.now) self.old.rows }
+        ensures rows { self.new.rows
+            ≡ with_change_at (λ row. R.order row (K.as_row key.now)) (C.changed change.now) self.old.rows }
         ensures room { self.old.room ≤ self.new.room }
     {
         change_at(&mut self.rows, key, change);
@@ -169,7 +170,8 @@ fn take_out<R: Row, K: Key<R>>(rows: &mut Vec<R>, key: &K)
 // Changes the row at a key, where there is one.
 fn change_at<R: Row, K: Key<R>, C: Change<R>>(rows: &mut Vec<R>, key: &K, change: &C)
     requires { are_in_order R.order rows.old.items ≡ true }
-    ensures rows { rows.new.items ≡ with_change_at (λ row. R.order row (K.as_row key.now)) (C.changed change.now) rows.old.items }
+    ensures rows { rows.new.items
+        ≡ with_change_at (λ row. R.order row (K.as_row key.now)) (C.changed change.now) rows.old.items }
     ensures few { vec_len rows.new ≤ vec_len rows.old }
     ensures room { vec_capacity rows.old ≤ vec_capacity rows.new }
 {
