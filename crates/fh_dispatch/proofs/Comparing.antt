@@ -1,10 +1,9 @@
 -- Settings count as the same exactly where they are equal.
-use Rattle.std.proofs.Common.{◌≡◌, ℕ, Bool, true, false, refl, subst, arith}
+use Rattle.std.proofs.Common.{◌≡◌, Bool, true, false, refl, subst}
 use Rattle.std.specs.Prelude.{◌==◌, ◌&&◌}
 use Rattle.std.specs.Bool.{beq}
 use Rattle.std.specs.Cmp.{booleans_Decides}
 use Rattle.std.proofs.lemmas.Bool.{eqb-true}
-use Rattle.std.proofs.lemmas.Bool.Decides.{nat_tests}
 use Rattle.fh_event.specs.declared.settings.FunctionSettings.{FunctionSettings}
 use Rattle.fh_event.specs.declared.settings.FunctionSettings.TheVariants.{Queue, Blob, Timer}
 use Rattle.fh_dispatch.specs.Settings.{same_settings}

@@ -1,5 +1,5 @@
 -- The ready jobs of a function, after one has come or all of a function have gone, and what keeps all in order.
-use Rattle.std.proofs.Common.{◌≡◌, ℕ, zero, suc, ◌-◌, ◌<◌, ◌≤◌, Bool, true, false, List, [], ◌∷◌, ◌++◌, length, take, drop, filter, refl, ap, inl, inr, ⊎_elim, arith}
+use Rattle.std.proofs.Common.{◌≡◌, ℕ, zero, suc, ◌-◌, ◌<◌, ◌≤◌, Bool, true, false, List, [], ◌∷◌, ◌++◌, length, take, drop, filter, refl, inl, inr, ⊎_elim, arith}
 use Rattle.std.specs.Prelude.{◌==◌, nat_le, nat_lt, not, if◌then◌else◌, insert}
 use Rattle.std.specs.List.{All}
 use Rattle.std.specs.List.Sorted.{IsPartitionPoint}
@@ -10,31 +10,9 @@ use Rattle.std.proofs.SliceLists.{hd}
 use Rattle.std.proofs.lemmas.List.Elements.{All-filter, filter-append}
 use Rattle.std.proofs.lemmas.List.Sorted.{IsNonDecreasingBy-insert}
 use Rattle.fh_rows.proofs.Parts.{filter-first, filter-last, filter-within}
+use Rattle.fh_dispatch.proofs.Filters.{filter-kept, filter-dropped}
 use Rattle.fh_dispatch.specs.declared.ready.ReadyJob.{ReadyJob}
 use Rattle.fh_dispatch.specs.Ready.{AreInOrder, jobs_of, with_job, without_jobs_of}
-
--- ---- what is filtered twice
-
-module _ {X : Type 0} (q keeps : X → Bool) where
-  -- all that is sought is kept
-  filter-kept : ((x : X) → q x ≡ true → keeps x ≡ true) → (xs : List X) → filter q (filter keeps xs) ≡ filter q xs
-  filter-kept kept [] = refl
-  filter-kept kept (x ∷ xs) = by_tests (q x) (keeps x) refl refl (filter-kept kept xs)
-    where
-      by_tests : (b k : Bool) → q x ≡ b → keeps x ≡ k → filter q (filter keeps xs) ≡ filter q xs → filter q (if k then x ∷ filter keeps xs else filter keeps xs) ≡ (if b then x ∷ filter q xs else filter q xs)
-      by_tests true true is keep rest = rw is (ap (λ more. x ∷ more) rest)
-      by_tests true false is keep rest = absurd (cc (kept x is))
-      by_tests false true is keep rest = rw is rest
-      by_tests false false is keep rest = rest
-
-  -- nothing that is sought is kept
-  filter-dropped : ((x : X) → keeps x ≡ true → q x ≡ false) → (xs : List X) → filter q (filter keeps xs) ≡ []
-  filter-dropped dropped [] = refl
-  filter-dropped dropped (x ∷ xs) = by_test (keeps x) refl (filter-dropped dropped xs)
-    where
-      by_test : (k : Bool) → keeps x ≡ k → filter q (filter keeps xs) ≡ [] → filter q (if k then x ∷ filter keeps xs else filter keeps xs) ≡ []
-      by_test true keep rest = rw (dropped x keep) rest
-      by_test false keep rest = rest
 
 -- ---- the jobs of a function
 
@@ -42,32 +20,43 @@ module _ (f : ℕ) where
   abbrev is_of : ReadyJob → Bool
   is_of job = job.function == f
 
-  jobs_of-parts : (job : ReadyJob) (ready : List ReadyJob) → jobs_of f (with_job job ready) ≡ jobs_of f (filter (λ other. nat_le other.function job.function) ready) ++ jobs_of f (job ∷ filter (λ other. nat_lt job.function other.function) ready)
-  jobs_of-parts job ready = filter-append is_of (filter (λ other. nat_le other.function job.function) ready) (job ∷ filter (λ other. nat_lt job.function other.function) ready)
+  jobs_of-parts : (job : ReadyJob) (ready : List ReadyJob)
+      → jobs_of f (with_job job ready) ≡ jobs_of f (filter (λ other. nat_le other.function job.function) ready)
+      ++ jobs_of f (job ∷ filter (λ other. nat_lt job.function other.function) ready)
+  jobs_of-parts job ready = filter-append is_of (filter (λ other. nat_le other.function job.function) ready)
+      (job ∷ filter (λ other. nat_lt job.function other.function) ready)
 
-  pub jobs_of-with_own : (job : ReadyJob) (ready : List ReadyJob) → (job.function == f) ≡ true → jobs_of f (with_job job ready) ≡ jobs_of f ready ++ job ∷ []
+  pub jobs_of-with_own : (job : ReadyJob) (ready : List ReadyJob) → (job.function == f) ≡ true
+      → jobs_of f (with_job job ready) ≡ jobs_of f ready ++ job ∷ []
   jobs_of-with_own job ready own =
       rw (
         jobs_of-parts job ready,
         own,
-        filter-kept is_of (λ other. nat_le other.function job.function) (λ other is. grind (arith, nat_tests, own, is)) ready,
-        filter-dropped is_of (λ other. nat_lt job.function other.function) (λ other is. grind (arith, nat_tests, own, is)) ready,
+        filter-kept is_of (λ other. nat_le other.function job.function) (λ other is. grind
+            (arith, nat_tests, own, is)) ready,
+        filter-dropped is_of (λ other. nat_lt job.function other.function) (λ other is. grind
+            (arith, nat_tests, own, is)) ready,
       )
       refl
 
-  pub jobs_of-with_other : (job : ReadyJob) (ready : List ReadyJob) → (job.function == f) ≡ false → jobs_of f (with_job job ready) ≡ jobs_of f ready
+  pub jobs_of-with_other : (job : ReadyJob) (ready : List ReadyJob) → (job.function == f) ≡ false
+      → jobs_of f (with_job job ready) ≡ jobs_of f ready
   jobs_of-with_other job ready other = elim (cases_lt f job.function) [
     | inl before ↦ rw (
       jobs_of-parts job ready,
       other,
-      filter-kept is_of (λ other. nat_le other.function job.function) (λ some is. grind (arith, nat_tests, before, is)) ready,
-      filter-dropped is_of (λ other. nat_lt job.function other.function) (λ some is. grind (arith, nat_tests, before, is)) ready,
+      filter-kept is_of (λ other. nat_le other.function job.function) (λ some is. grind
+          (arith, nat_tests, before, is)) ready,
+      filter-dropped is_of (λ other. nat_lt job.function other.function) (λ some is. grind
+          (arith, nat_tests, before, is)) ready,
     ) (append-nil (jobs_of f ready))
     | inr after ↦ rw (
       jobs_of-parts job ready,
       other,
-      filter-dropped is_of (λ other. nat_le other.function job.function) (λ some is. grind (arith, nat_tests, other, after, is)) ready,
-      filter-kept is_of (λ other. nat_lt job.function other.function) (λ some is. grind (arith, nat_tests, other, after, is)) ready,
+      filter-dropped is_of (λ other. nat_le other.function job.function) (λ some is. grind
+          (arith, nat_tests, other, after, is)) ready,
+      filter-kept is_of (λ other. nat_lt job.function other.function) (λ some is. grind
+          (arith, nat_tests, other, after, is)) ready,
     ) refl
   ]
 
@@ -75,19 +64,22 @@ module _ (f : ℕ) where
   jobs_of-without_own g ready own =
       filter-dropped is_of (λ job. not (job.function == g)) (λ job is. grind (arith, nat_tests, own, is)) ready
 
-  pub jobs_of-without_other : (g : ℕ) (ready : List ReadyJob) → (g == f) ≡ false → jobs_of f (without_jobs_of g ready) ≡ jobs_of f ready
+  pub jobs_of-without_other : (g : ℕ) (ready : List ReadyJob) → (g == f) ≡ false
+      → jobs_of f (without_jobs_of g ready) ≡ jobs_of f ready
   jobs_of-without_other g ready other =
       filter-kept is_of (λ job. not (job.function == g)) (λ job is. grind (arith, nat_tests, other, is)) ready
 
 -- ---- order
 
-ordered-cons : (job : ReadyJob) (jobs : List ReadyJob) → All (λ later. job.function ≤ later.function) jobs → AreInOrder jobs → AreInOrder (job ∷ jobs)
+ordered-cons : (job : ReadyJob) (jobs : List ReadyJob) → All (λ later. job.function ≤ later.function) jobs
+    → AreInOrder jobs → AreInOrder (job ∷ jobs)
 ordered-cons job jobs first up zero zero d le lt = omega arith
 ordered-cons job jobs first up zero (suc j) d le lt = first j d (omega (arith, lt))
 ordered-cons job jobs first up (suc i) zero d le lt = absurd (omega (arith, le))
 ordered-cons job jobs first up (suc i) (suc j) d le lt = up i j d (omega (arith, le)) (omega (arith, lt))
 
-ordered-first : (job : ReadyJob) (jobs : List ReadyJob) → AreInOrder (job ∷ jobs) → All (λ later. job.function ≤ later.function) jobs
+ordered-first : (job : ReadyJob) (jobs : List ReadyJob) → AreInOrder (job ∷ jobs)
+    → All (λ later. job.function ≤ later.function) jobs
 ordered-first job jobs up k d lt = up 0 (suc k) d (omega arith) (omega (arith, lt))
 
 ordered-rest : (job : ReadyJob) (jobs : List ReadyJob) → AreInOrder (job ∷ jobs) → AreInOrder jobs
@@ -97,8 +89,10 @@ pub ordered-filter : (keeps : ReadyJob → Bool) (jobs : List ReadyJob) → AreI
 ordered-filter keeps [] up = up
 ordered-filter keeps (job ∷ jobs) up = by_test (keeps job) (ordered-filter keeps jobs (ordered-rest job jobs up))
   where
-    by_test : (b : Bool) → AreInOrder (filter keeps jobs) → AreInOrder (if b then job ∷ filter keeps jobs else filter keeps jobs)
-    by_test true rest = ordered-cons job (filter keeps jobs) (All-filter keeps (λ later. job.function ≤ later.function) jobs (ordered-first job jobs up)) rest
+    by_test : (b : Bool) → AreInOrder (filter keeps jobs)
+        → AreInOrder (if b then job ∷ filter keeps jobs else filter keeps jobs)
+    by_test true rest = ordered-cons job (filter keeps jobs) (All-filter keeps
+        (λ later. job.function ≤ later.function) jobs (ordered-first job jobs up)) rest
     by_test false rest = rest
 
 -- ---- where the jobs of a function stand
@@ -110,19 +104,18 @@ EndsBefore f jobs place = IsPartitionPoint (λ job. job.function < f) (λ job. f
 abbrev pub EndsAt : ℕ → List ReadyJob → ℕ → Type 0
 EndsAt f jobs place = IsPartitionPoint (λ job. job.function ≤ f) (λ job. f < job.function) jobs place
 
-pub before_from_test : (f : ℕ) (jobs : List ReadyJob) (place : ℕ) → IsPartitionPoint (λ job. nat_lt job.function f ≡ true) (λ job. nat_lt job.function f ≡ false) jobs place → EndsBefore f jobs place
-before_from_test f jobs place tests = (
-  λ k d low high. let below = tests.0 k d low high in grind (arith, nat_tests, below),
-  λ k d low high. let above = tests.1 k d low high in grind (arith, nat_tests, above),
+-- where a test ends, what it tells ends
+pub ends_from_test : (test : ReadyJob → Bool) (Before Behind : ReadyJob → Type 0) (jobs : List ReadyJob) (place : ℕ)
+    → ((job : ReadyJob) → test job ≡ true → Before job) → ((job : ReadyJob) → test job ≡ false → Behind job)
+    → IsPartitionPoint (λ job. test job ≡ true) (λ job. test job ≡ false) jobs place
+    → IsPartitionPoint Before Behind jobs place
+ends_from_test test Before Behind jobs place passes fails tests = (
+  λ k d low high. passes _ (tests.0 k d low high),
+  λ k d low high. fails _ (tests.1 k d low high),
 )
 
-pub at_from_test : (f : ℕ) (jobs : List ReadyJob) (place : ℕ) → IsPartitionPoint (λ job. nat_le job.function f ≡ true) (λ job. nat_le job.function f ≡ false) jobs place → EndsAt f jobs place
-at_from_test f jobs place tests = (
-  λ k d low high. let here = tests.0 k d low high in grind (arith, nat_tests, here),
-  λ k d low high. let above = tests.1 k d low high in grind (arith, nat_tests, above),
-)
-
-module _ (f : ℕ) (jobs : List ReadyJob) (start end : ℕ) (before : EndsBefore f jobs start) (upto : EndsAt f jobs end) (within : start ≤ length jobs) (most : end ≤ length jobs) where
+module _ (f : ℕ) (jobs : List ReadyJob) (start end : ℕ) (before : EndsBefore f jobs start)
+    (upto : EndsAt f jobs end) (within : start ≤ length jobs) (most : end ≤ length jobs) where
   pub begins_first : start ≤ end
   begins_first = ⊎_elim (λ late. absurd (here late)) (λ le. le) (cases_lt end start)
     where
@@ -135,10 +128,12 @@ module _ (f : ℕ) (jobs : List ReadyJob) (start end : ℕ) (before : EndsBefore
   jobs_of-part =
       filter-within (λ (job : ReadyJob). job.function == f) jobs start end begins_first most
       (λ k d low high. let below = before.0 k d low high in grind (arith, nat_tests, below))
-      (λ k d low high. let here = upto.0 k d (omega arith) high in let after = before.1 k d low (omega (arith, high, most)) in grind (arith, nat_tests, here, after))
+      (λ k d low high. let here = upto.0 k d (omega arith) high in
+      let after = before.1 k d low (omega (arith, high, most)) in grind (arith, nat_tests, here, after))
       (λ k d low high. let above = upto.1 k d low high in grind (arith, nat_tests, above))
 
-module _ (job : ReadyJob) (jobs : List ReadyJob) (place : ℕ) (upto : EndsAt job.function jobs place) (within : place ≤ length jobs) where
+module _ (job : ReadyJob) (jobs : List ReadyJob) (place : ℕ) (upto : EndsAt job.function jobs place)
+    (within : place ≤ length jobs) where
   pub insert-job : insert jobs place job ≡ with_job job jobs
   insert-job =
       let front = filter-first (λ (other : ReadyJob). nat_le other.function job.function) jobs place within

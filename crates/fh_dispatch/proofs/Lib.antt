@@ -1,7 +1,11 @@
 pub mod InnerNames
 pub mod Configuring
 pub mod Naming
+pub mod Filters
 pub mod Jobs
+pub mod Keys
+pub mod InTurn
+pub mod Indexes
 pub mod Scheduled
 mod Ways
 mod JobLaws

@@ -1,4 +1,6 @@
 pub mod Ready
+pub mod Invocations
+pub mod Runs
 pub mod Part
 pub mod Settings
 pub mod Asks

@@ -8,8 +8,14 @@
 //! nothing, both without memory. `function_of`, `timer_of`, `jobs_of` and `in_work` read; `note_text` is the
 //! text by which a function is told of a blob. `laws` says that a function keeps its number, that numbers are
 //! given in turn, each once, that other functions and their jobs stay as they are, and that a function has one
-//! run ready at most. Read `specs/Part.antt`, `Ready.antt`, `Rules.antt`, `Outcome.antt`, `Queues.antt` and
-//! `Timers.antt` first.
+//! run ready at most.
+//!
+//! `Invocations` are the running ones, in order of number; the work doesn't hold them yet. Contracts see the list.
+//! Those of a function, one of a number, and the first one from a number on that is due, are found in the logarithm
+//! of all; after `reserve` no change takes memory.
+//!
+//! Read `specs/Part.antt`, `Ready.antt`, `Rules.antt`, `Outcome.antt`, `Queues.antt`, `Timers.antt` and
+//! `Invocations.antt` first.
 #![tactic(auto)]
 
 mod act;
@@ -18,12 +24,14 @@ mod change;
 mod done;
 mod fetching;
 mod function;
+mod invocations;
 mod laws;
 mod note;
 mod planning;
 mod queues;
 mod ready;
 mod rules;
+mod running;
 mod settings;
 mod staging;
 mod timer;
@@ -34,6 +42,7 @@ pub use ask::WorkAsk;
 pub use change::{StagedWork, WorkChange, WorkPlan};
 pub use done::WorkDone;
 pub use function::Function;
+pub use invocations::Invocations;
 pub use laws::{
     asks_have_their_answers, counters_move_little, fetches_are_as_told, fetches_keep_to_the_bound,
     functions_are_as_configured, jobs_are_as_asked, numbers_are_given_in_turn, numbers_are_kept,
@@ -44,6 +53,7 @@ pub use laws::{
 pub use note::note_text;
 pub use queues::inner_queue;
 pub use ready::{Job, ReadyJob};
+pub use running::Running;
 pub use timer::Timer;
 pub use trigger::Trigger;
 pub use work::Work;

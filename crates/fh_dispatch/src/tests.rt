@@ -403,3 +403,55 @@ fn a_timer_is_told_by_its_schedule(rt: HostRuntime) -> Result<(), Fail> {
     assert!(&rt; work.timer_of("b").is_none() && work.timer_of("x").is_none());
     Ok(())
 }
+
+// Another invocation of a function, for message 7, due at that moment.
+fn begin(
+    rt: &HostRuntime,
+    invocations: &mut Invocations,
+    function: u64,
+    due: u64,
+) -> Result<(), Fail> {
+    invocations.reserve(1)?;
+    let run = Running {
+        invocation: invocations.next(),
+        function,
+        name: Text::empty(rt.alloc()),
+        job: Job::Message {
+            number: 7,
+            receipt: 1,
+        },
+        due,
+    };
+    invocations.begin(run);
+    Ok(())
+}
+
+fn due_by(invocations: &Invocations, from: u64, most: u64) -> Option<u64> {
+    if most > 1_000_000 {
+        return None;
+    }
+    Some(invocations.first_due(from, most)?.invocation)
+}
+
+#[test]
+fn running_invocations_are_found_and_end(rt: HostRuntime) -> Result<(), Fail> {
+    let mut invocations = Invocations::new(rt.alloc());
+    for (function, due) in [(2, 500), (1, 900), (2, 300), (1, 300), (3, 100)] {
+        begin(&rt, &mut invocations, function, due)?;
+    }
+    assert_eq!(rt; due_by(&invocations, 1, 300), Some(3));
+    assert_eq!(rt; due_by(&invocations, 4, 300), Some(4));
+    assert_eq!(rt; due_by(&invocations, 1, 99), None);
+    assert_eq!(rt; invocations.of(2).len(), 2);
+    invocations.renew(3, 9, 901);
+    assert_eq!(rt; due_by(&invocations, 1, 300), Some(4));
+    invocations.finish(1);
+    assert_eq!(rt; invocations.lowest(), Some(2));
+    invocations.drop_of(1);
+    assert_eq!(rt; invocations.lowest(), Some(3));
+    assert!(rt; invocations.get(4).is_none());
+    invocations.clear();
+    assert_eq!(rt; invocations.lowest(), None);
+    assert_eq!(rt; invocations.next(), 6);
+    Ok(())
+}

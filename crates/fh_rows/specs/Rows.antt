@@ -1,9 +1,9 @@
 -- Lists of rows in order, each key once.
-use Rattle.std.specs.Prelude.{◌≡◌, ℕ, ◌≤◌, Bool, true, ◌&&◌, List, [], ◌∷◌, ◌++◌, find, filter, Option}
+use Rattle.std.specs.Prelude.{◌≡◌, ℕ, Bool, true, ◌&&◌, List, [], ◌∷◌, ◌++◌, find, filter, map, if◌then◌else◌, Option}
 use Rattle.std.specs.List.{list_all}
 use Rattle.std.specs.Ordering.{is_lt, is_eq, is_ne, is_gt}
 use Rattle.std.specs.declared.cmp.Ordering.{Ordering}
-use Rattle.std.specs.declared.cmp.Ordering.TheVariants.{Less, Equal, Greater}
+use Rattle.std.specs.declared.cmp.Ordering.TheVariants.{Less, Equal}
 
 -- the rows, and for how many more there is room
 pub record RowsState (Row : Type 0) : Type 0 where
@@ -22,6 +22,10 @@ module _ {Row : Type 0} (place : Row → Ordering) where
   -- this row there, behind those that come before and before those that come behind
   abbrev pub with_row_at : Row → List Row → List Row
   with_row_at new rows = filter (λ row. is_lt (place row)) rows ++ new ∷ filter (λ row. is_gt (place row)) rows
+
+  -- the row there, changed so
+  abbrev pub with_change_at : (Row → Row) → List Row → List Row
+  with_change_at change rows = map (λ row. if is_eq (place row) then change row else row) rows
 
   -- no row there
   abbrev pub without_row_at : List Row → List Row

@@ -2,6 +2,7 @@
 ghost use Rattle.std.specs.Prelude.{◌≡◌};
 ghost use Rattle.std.specs.Cmp.{IsTotalOrder};
 ghost use Rattle.std.specs.declared.cmp.Ordering.{Ordering as Order};
+ghost use Rattle.std.specs.declared.cmp.Ordering.TheVariants.{Equal};
 ghost use Rattle.fh_rows.specs.Rows.{IsSpan};
 
 use std::cmp::Ordering;
@@ -36,4 +37,15 @@ pub trait Span<R: Row> {
         ensures { result ≡ place self.now row.now };
 
     ghost spans: { (span : Self) → IsSpan R.order (place span) };
+}
+
+/// A change of rows that leaves their keys.
+pub trait Change<R: Row> {
+    /// What it makes of a row.
+    ghost changed: { Self → R → R };
+
+    fn apply(&self, row: &mut R)
+        ensures { row.new ≡ changed self.now row.old };
+
+    ghost keeps: { (change : Self) (row : R) → R.order (changed change row) row ≡ Equal };
 }

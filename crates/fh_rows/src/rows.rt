@@ -1,9 +1,10 @@
 // The rows, as they are kept.
 ghost use Rattle.std.specs.Prelude.{◌≡◌, ◌+◌, ◌<◌, ◌≤◌, [], true, insert, slice_range, length, option_copied, vec_len, vec_capacity, OnOk};
-ghost use Rattle.fh_rows.specs.Rows.{row_at, rows_at, with_row, without_row_at, are_in_order};
+ghost use Rattle.std.specs.List.{remove_range};
+ghost use Rattle.fh_rows.specs.Rows.{row_at, rows_at, with_row, with_change_at, without_row_at, are_in_order};
 ghost use Rattle.fh_rows.specs.Places.{IsPlace};
 
-use crate::{Key, Row, Span};
+use crate::{Change, Key, Row, Span};
 use std::alloc::{AllocError, Global};
 use std::marker::Model;
 
@@ -89,6 +90,31 @@ impl<R: Row> Rows<R> {
     {
         take_out(&mut self.rows, key);
     }
+
+    /// Changes the row at a key, where there is one. Takes no memory.
+    pub fn change<K: Key<R>, C: Change<R>>(&mut self, key: &K, change: &C)
+        ensures rows { self.new.rows
+            ≡ with_change_at (λ row. R.order row (K.as_row key.now)) (C.changed change.now) self.old.rows }
+        ensures room { self.old.room ≤ self.new.room }
+    {
+        change_at(&mut self.rows, key, change);
+    }
+
+    /// Takes the rows of a part of the order out. Takes no memory.
+    pub fn remove_all<S: Span<R>>(&mut self, span: &S)
+        ensures rows { self.new.rows ≡ without_row_at (S.place span.now) self.old.rows }
+        ensures room { self.old.room ≤ self.new.room }
+    {
+        cut(&mut self.rows, span);
+    }
+
+    /// Takes all rows out. Takes no memory.
+    pub fn clear(&mut self)
+        ensures rows { self.new.rows ≡ [] }
+        ensures room { self.old.room ≤ self.new.room }
+    {
+        self.rows.clear();
+    }
 }
 
 // Where the rows of a part begin and end.
@@ -97,6 +123,7 @@ fn bounds_of<R: Row, S: Span<R>>(rows: &[R], span: &S) -> Bounds
     ensures order { result.start ≤ result.end }
     ensures within { result.end ≤ length rows.now }
     ensures part { rows_at (S.place span.now) rows.now ≡ slice_range rows.now result.start result.end }
+    ensures rest { without_row_at (S.place span.now) rows.now ≡ remove_range rows.now result.start result.end }
 {
     Bounds {
         start: rows.partition_point(|row| span.compare(row).is_lt()),
@@ -138,6 +165,40 @@ fn take_out<R: Row, K: Key<R>>(rows: &mut Vec<R>, key: &K)
     if let Ok(place) = place_of(rows, key) {
         let _removed = rows.remove(place);
     }
+}
+
+// Changes the row at a key, where there is one.
+fn change_at<R: Row, K: Key<R>, C: Change<R>>(rows: &mut Vec<R>, key: &K, change: &C)
+    requires { are_in_order R.order rows.old.items ≡ true }
+    ensures rows { rows.new.items
+        ≡ with_change_at (λ row. R.order row (K.as_row key.now)) (C.changed change.now) rows.old.items }
+    ensures few { vec_len rows.new ≤ vec_len rows.old }
+    ensures room { vec_capacity rows.old ≤ vec_capacity rows.new }
+{
+    if let Ok(place) = place_of(rows, key) {
+        change.apply(&mut rows[place]);
+    }
+}
+
+// Takes the rows of a part of the order out.
+fn cut<R: Row, S: Span<R>>(rows: &mut Vec<R>, span: &S)
+    requires { are_in_order R.order rows.old.items ≡ true }
+    ensures rows { rows.new.items ≡ without_row_at (S.place span.now) rows.old.items }
+    ensures fewer { vec_len rows.new ≤ vec_len rows.old }
+    ensures room { vec_capacity rows.old ≤ vec_capacity rows.new }
+{
+    let part = bounds_of(rows, span);
+    take_range(rows, part);
+}
+
+fn take_range<R: Row>(rows: &mut Vec<R>, part: Bounds)
+    requires order { part.start ≤ part.end }
+    requires within { part.end ≤ vec_len rows.old }
+    ensures rows { rows.new.items ≡ remove_range rows.old.items part.start part.end }
+    ensures fewer { vec_len rows.new ≤ vec_len rows.old }
+    ensures room { vec_capacity rows.old ≤ vec_capacity rows.new }
+{
+    drop(rows.drain(part.start..part.end));
 }
 
 fn place_of<R: Row, K: Key<R>>(rows: &[R], key: &K) -> Result<usize, usize>

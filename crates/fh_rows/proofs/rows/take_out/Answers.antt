@@ -5,10 +5,12 @@ use Rattle.fh_rows.proofs.rows.take_out.Goals as goal
 
 pub returns-in-Ok-clause-rows : goal.returns-in-Ok-clause-rows
 returns-in-Ok-clause-rows g c =
-    let found = without_row_at-found (λ row. g.R.Row.order row (g.K.Key.as_row c.args.key.now)) c.deref.result.now c.in-Ok.place c.in-Ok.ensures in
+    let found = without_row_at-found (λ row. g.R.Row.order row
+    (g.K.Key.as_row c.args.key.now)) c.deref.result.now c.in-Ok.place c.in-Ok.ensures in
     grind (arith, common_steps)
 
 pub returns-in_default-clause-rows : goal.returns-in_default-clause-rows
 returns-in_default-clause-rows g c =
-    let none = without_row_at-none (λ row. g.R.Row.order row (g.K.Key.as_row c.args.key.now)) c.deref.result.now c.in_default.field-0 c.in_default.ensures in
+    let none = without_row_at-none (λ row. g.R.Row.order row
+    (g.K.Key.as_row c.args.key.now)) c.deref.result.now c.in_default.field-0 c.in_default.ensures in
     grind (arith, common_steps)

@@ -5,10 +5,12 @@ use Rattle.fh_rows.proofs.rows.Rows.get.Goals as goal
 
 pub returns-in-Ok : goal.returns-in-Ok
 returns-in-Ok g c =
-    let found = row_at-found (λ row. g.R.Row.order row (g.K.Key.as_row c.args.key.now)) c.deref.result.now c.in-Ok.place c.index.result.now c.in-Ok.ensures in
+    let found = row_at-found (λ row. g.R.Row.order row
+    (g.K.Key.as_row c.args.key.now)) c.deref.result.now c.in-Ok.place c.index.result.now c.in-Ok.ensures in
     grind (arith, common_steps)
 
 pub returns-in-Err : goal.returns-in-Err
 returns-in-Err g c =
-    let none = row_at-none (λ row. g.R.Row.order row (g.K.Key.as_row c.args.key.now)) c.deref.result.now c.in-Err.field-0 c.in-Err.ensures in
+    let none = row_at-none (λ row. g.R.Row.order row
+    (g.K.Key.as_row c.args.key.now)) c.deref.result.now c.in-Err.field-0 c.in-Err.ensures in
     grind (arith, common_steps)
