@@ -46,7 +46,8 @@ impl Leases {
         None
     }
 
-    pub(crate) fn lease_of(&self, name: &str) -> Option<&Lease>
+    /// A lease as its last holder has it or had it. Takes no memory.
+    pub fn lease_of(&self, name: &str) -> Option<&Lease>
         ensures { option_copied result ≡ lease_of name.now self.now.part.leases }
     {
         self.rows.get(&Name { name })

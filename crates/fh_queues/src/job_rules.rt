@@ -72,7 +72,13 @@ impl Queues {
         }
     }
 
-    fn room_rule(&self, m: Moment, message: Option<HeldMessage>, outputs: &[Output]) -> Option<Rule>
+    /// The outputs have no room beside the messages that stay.
+    pub fn room_rule(
+        &self,
+        m: Moment,
+        message: Option<HeldMessage>,
+        outputs: &[Output],
+    ) -> Option<Rule>
         ensures { result ≡ room_rule self.now.part m message outputs.now }
     {
         let live = self.live_beside(m, message);

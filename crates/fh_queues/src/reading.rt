@@ -4,6 +4,7 @@ ghost use Rattle.fh_queues.specs.Rows.{live, live_row, row_in};
 ghost use Rattle.fh_queues.specs.Part.{has_queue};
 ghost use Rattle.fh_queues.specs.Outcome.{peeked};
 ghost use Rattle.fh_queues.specs.Places.{place_of, place_of_live, place_of_row, place_of_ending};
+ghost use Rattle.fh_queues.specs.Edits.{HasNumbers};
 ghost use Rattle.fh_queues.specs.Faults.{IsFaultOf};
 
 use crate::choosing::peeked_items;
@@ -64,6 +65,21 @@ impl Queues {
             Slot::Row { row, place: _ } => place_of_row(row, m),
             Slot::Ended { ending } => place_of_ending(*ending),
         }
+    }
+
+    /// The number that the next message gets. Takes no memory.
+    pub fn next_number(&self) -> u64
+        requires { HasNumbers self.now.part }
+        ensures { result ≡ self.now.part.next_number }
+    {
+        self.lists.next_number()
+    }
+
+    /// The receipt that is given next. Takes no memory.
+    pub fn next_receipt(&self) -> u64
+        ensures { result ≡ self.now.part.next_receipt }
+    {
+        self.lists.next_receipt
     }
 
     /// Whether the queue is there. Takes no memory.
