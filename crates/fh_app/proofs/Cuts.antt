@@ -13,7 +13,8 @@ cut_at-none c [] absent = refl
 cut_at-none c (b ∷ bs) absent =
     rw (eqb-from_ne b c (absent 0 (omega arith)), cut_at-none c bs (λ i less. absent (suc i) (omega arith))) refl
 
-pub cut_at-some : (c : ℕ) (xs ys : List ℕ) → ((i : ℕ) → i < length xs → get_or xs i 0 ≢ c) → cut_at c (xs ++ (c ∷ ys)) ≡ Some (xs, ys)
+pub cut_at-some : (c : ℕ) (xs ys : List ℕ) → ((i : ℕ) → i < length xs → get_or xs i 0 ≢ c)
+    → cut_at c (xs ++ (c ∷ ys)) ≡ Some (xs, ys)
 cut_at-some c [] ys absent = rw (eq-eqb c c refl) refl
 cut_at-some c (x ∷ xs) ys absent =
     rw (eqb-from_ne x c (absent 0 (omega arith)), cut_at-some c xs ys (λ i less. absent (suc i) (omega arith))) refl

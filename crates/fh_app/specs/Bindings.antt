@@ -63,7 +63,8 @@ abbrev pub text_in : List ℕ → Data → List ℕ
 text_in member binding = unwrap_or (option_and_then as_str (get member binding)) []
 
 abbrev pub has_name : List ℕ → Data → Bool
-has_name name binding = unwrap_or (option_map (bytes_eq name) (option_and_then as_str (get (codes "name") binding))) false
+has_name name binding = unwrap_or (option_map (bytes_eq name) (option_and_then as_str (get (codes "name") binding)))
+    false
 
 -- a plain name, or `$return` for an output, that no binding before has
 abbrev pub may_be_named : Bool → List Data → List ℕ → Bool
@@ -87,7 +88,8 @@ abbrev pub queue_in : Pairs → Data → Option (List ℕ)
 queue_in settings value = only is_queue_name (replaced_text settings value)
 
 abbrev pub template_in : Pairs → Data → Option Layout
-template_in settings value = option_and_then (λ text. result_ok (reading_of Free (replaced settings text))) (as_str value)
+template_in settings value = option_and_then (λ text. result_ok (reading_of Free (replaced settings text)))
+    (as_str value)
 
 -- what stands before the first such byte, and behind it
 abbrev pub cut_at : ℕ → List ℕ → Option (List ℕ × List ℕ)
@@ -97,7 +99,8 @@ cut_at c (b ∷ text) = if b == c then Some ([], text) else option_map (λ cut. 
 -- a container's name and a pattern
 abbrev pub blobs_named : List ℕ → List ℕ → Option (List ℕ × Layout)
 blobs_named container pattern =
-    if is_queue_name container then option_map (λ layout. (container, layout)) (result_ok (reading Distinct pattern)) else None
+    if is_queue_name container then option_map (λ layout. (container, layout)) (result_ok (reading Distinct pattern))
+    else None
 
 -- the container, and behind the first slash the pattern
 abbrev pub blobs_in : Pairs → Data → Option (List ℕ × Layout)
@@ -163,7 +166,8 @@ abbrev pub timer_rows : List ℕ → ℕ → Data → Result ⊤ AppFault
 timer_rows file place binding =
     after (needed file (label place (codes "schedule"))
     (option_map (λ value. is_some (schedule_in value)) (get (codes "schedule") binding))) (λ _.
-    after (allowed file (label place (codes "runOnStartup")) (option_map is_truth (get (codes "runOnStartup") binding))) (λ _.
+    after (allowed file (label place (codes "runOnStartup"))
+    (option_map is_truth (get (codes "runOnStartup") binding))) (λ _.
     allowed file (label place (codes "useMonitor")) (option_map is_truth (get (codes "useMonitor") binding))))
 
 abbrev pub timer_row : List ℕ → ℕ → Data → Option BindingType → Result ⊤ AppFault

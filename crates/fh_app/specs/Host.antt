@@ -40,12 +40,22 @@ week = 604800000
 unfoldable pub queue_settings_of : Data → Result QueueSettings AppFault
 queue_settings_of host =
     after (in_host host (codes "extensions.queues.batchSize") (number_in 1 32) (Some 16)) (λ batch.
-    after (in_host host (codes "extensions.queues.newBatchThreshold") (number_in 0 1000) (Some (batch / 2))) (λ threshold.
+    after (in_host host (codes "extensions.queues.newBatchThreshold") (number_in 0 1000) (Some (batch / 2)))
+    (λ threshold.
     after (in_host host (codes "extensions.queues.maxDequeueCount") (number_in 1 1000) (Some 5)) (λ limit.
     after (in_host host (codes "extensions.queues.visibilityTimeout") (duration_in 0 week) (Some 0)) (λ retry.
-    after (in_host host (codes "extensions.queues.maxPollingInterval") (duration_in 0 (2 ^ 64 - 1)) (Some 60000)) (λ polling.
+    after (in_host host (codes "extensions.queues.maxPollingInterval") (duration_in 0 (2 ^ 64 - 1)) (Some 60000))
+    (λ polling.
     after (in_host host (codes "extensions.queues.messageEncoding") encoding (Some Bool.true)) (λ base64.
-    Ok (record { batch = batch; threshold = threshold; limit = limit; retry = retry / 1000; polling = polling; base64 = base64 })))))))
+    Ok (record {
+      batch = batch;
+      threshold = threshold;
+      limit = limit;
+      retry = retry / 1000;
+      polling = polling;
+      base64 =
+          base64;
+    })))))))
 
 unfoldable pub lock_seconds_of : Data → Result ℕ AppFault
 lock_seconds_of host =
@@ -57,7 +67,8 @@ lock_seconds_of host =
 -- what host.json says, or the first row that it breaks
 unfoldable pub host_of : Data → Result Host AppFault
 host_of host =
-    after (needed (codes "host.json") (codes "version") (option_map (is_text (codes "2.0")) (at (codes "version") host))) (λ _.
+    after (needed (codes "host.json") (codes "version")
+    (option_map (is_text (codes "2.0")) (at (codes "version") host))) (λ _.
     after (handler_of host) (λ handler.
     after (queue_settings_of host) (λ queues.
     after (lock_seconds_of host) (λ lock.

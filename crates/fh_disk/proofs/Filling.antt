@@ -17,25 +17,29 @@ taken : (front piece rest : List ℕ) (filled n : ℕ) → length front ≡ fill
     → take (filled + n) (front ++ (piece ++ rest)) ≡ front ++ take n piece
 taken front piece rest filled n long short =
     take-add filled n (front ++ (piece ++ rest))
-    ∙ ap (λ (l : List ℕ). l ++ take n (drop filled (front ++ (piece ++ rest)))) (take_at front (piece ++ rest) filled long)
+    ∙ ap (λ (l : List ℕ). l ++ take n (drop filled (front ++ (piece ++ rest))))
+    (take_at front (piece ++ rest) filled long)
     ∙ ap (λ (l : List ℕ). front ++ take n l) (drop_at front (piece ++ rest) filled long)
     ∙ ap (λ (l : List ℕ). front ++ l) (take-append-le n piece rest short)
 
 more : (file : List ℕ) (at filled n : ℕ) (buf piece rest : List ℕ) → filled ≤ length buf → n ≤ length piece
-    → IsFilling file at filled buf → ReadsAt file (at + filled) piece n → IsFilling file at (filled + n) (take filled buf ++ (piece ++ rest))
+    → IsFilling file at filled buf → ReadsAt file (at + filled) piece n
+    → IsFilling file at (filled + n) (take filled buf ++ (piece ++ rest))
 more file at filled n buf piece rest short some so_far reads =
     let long : length (take filled buf) ≡ filled = omega (arith, length-take filled buf) in
     record {
       front =
           taken (take filled buf) piece rest filled n long some
           ∙ ap (λ (l : List ℕ). l ++ take n piece) so_far.front
-          ∙ ap (λ (l : List ℕ). take filled (drop at file) ++ l) (reads.bytes ∙ ap (take n) (sym (drop-drop filled at file)))
+          ∙ ap (λ (l : List ℕ). take filled (drop at file) ++ l)
+          (reads.bytes ∙ ap (take n) (sym (drop-drop filled at file)))
           ∙ sym (take-add filled n (drop at file));
       within = omega (arith, reads.within, so_far.within);
     }
 
 -- a read behind them brings more
-pub goes_on : (told read : Option (List ℕ)) (at filled n : ℕ) (buf piece rest : List ℕ) → read ≡ told → filled ≤ length buf → n ≤ length piece
+pub goes_on : (told read : Option (List ℕ)) (at filled n : ℕ) (buf piece rest : List ℕ) → read ≡ told
+    → filled ≤ length buf → n ≤ length piece
     → IfSome told (λ file. IsFilling file at filled buf) → IfSome read (λ file. ReadsAt file (at + filled) piece n)
     → IfSome told (λ file. IsFilling file at (filled + n) (take filled buf ++ (piece ++ rest)))
 goes_on None read at filled n buf piece rest same short some so_far reads = tt

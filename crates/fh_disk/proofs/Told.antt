@@ -24,14 +24,16 @@ pub where_told : (told : Option (List ℕ)) (A B : Type 0) → IfSome told (λ _
 where_told None A B a then = tt
 where_told (Some file) A B a then = then a
 
-pub where_both : (told now : Option (List ℕ)) (A B C : Type 0) → StaysTold told now → IfSome told (λ _. A) → IfSome now (λ _. B) → (A → B → C)
+pub where_both : (told now : Option (List ℕ)) (A B C : Type 0) → StaysTold told now → IfSome told (λ _. A)
+    → IfSome now (λ _. B) → (A → B → C)
     → IfSome told (λ _. C)
 where_both None now A B C stays a b then = tt
 where_both (Some file) None A B C stays a b then = absurd stays
 where_both (Some file) (Some new) A B C stays a b then = then a b
 
 -- what follows from the images
-pub where_each : (told : Option (List ℕ)) (images P : List ℕ → Type 0) (B : Type 0) → IfSome told (λ file. Each file images P)
+pub where_each : (told : Option (List ℕ)) (images P : List ℕ → Type 0) (B : Type 0)
+    → IfSome told (λ file. Each file images P)
     → (((c : List ℕ) → images c → P c) → B) → IfSome told (λ _. B)
 where_each None images P B each then = tt
 where_each (Some file) images P B each then = then each.after_crash
@@ -47,7 +49,8 @@ torn_stays None now at n torn = torn
 torn_stays (Some file) None at n torn = absurd torn
 torn_stays (Some file) (Some new) at n torn = tt
 
-pub same_torn : (told mid now : Option (List ℕ)) (at n : ℕ) → TornTold at n told mid → now ≡ mid → TornTold at n told now
+pub same_torn : (told mid now : Option (List ℕ)) (at n : ℕ) → TornTold at n told mid → now ≡ mid
+    → TornTold at n told now
 same_torn told mid now at n torn same = rw same torn
 
 -- a write keeps what each of its torn outcomes keeps

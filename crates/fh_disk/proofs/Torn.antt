@@ -3,7 +3,8 @@ use Rattle.std.proofs.Common.{◌≡◌, ℕ, suc, ◌+◌, ◌<◌, List, [], �
 use Rattle.std.specs.List.{slice_get}
 use Rattle.fh_disk.specs.Disk.{Torn}
 
-same_each : (xs ys : List ℕ) → length xs ≡ length ys → ((i : ℕ) → i < length ys → slice_get xs i ≡ slice_get ys i) → xs ≡ ys
+same_each : (xs ys : List ℕ) → length xs ≡ length ys → ((i : ℕ) → i < length ys → slice_get xs i ≡ slice_get ys i)
+    → xs ≡ ys
 same_each [] [] long each = refl
 same_each [] (y ∷ ys) long each = absurd (omega (arith, long))
 same_each (x ∷ xs) [] long each = absurd (omega (arith, long))
@@ -13,7 +14,8 @@ same_each (x ∷ xs) (y ∷ ys) long each =
     cc
 
 -- a byte in front of the write stays
-pub torn_tail : (at n x : ℕ) (old c : List ℕ) → Torn (suc at) n (x ∷ old) c → (d : List ℕ) × (c ≡ x ∷ d) × Torn at n old d
+pub torn_tail : (at n x : ℕ) (old c : List ℕ) → Torn (suc at) n (x ∷ old) c
+    → (d : List ℕ) × (c ≡ x ∷ d) × Torn at n old d
 torn_tail at n x old [] torn = absurd (omega (arith, torn.no_shorter))
 torn_tail at n x old (y ∷ d) torn =
     let same : Some y ≡ Some x = torn.before 0 (omega arith) (omega arith) in
@@ -29,7 +31,8 @@ torn_tail at n x old (y ∷ d) torn =
     )
 
 -- and so does a whole front
-pub torn_past : (front : List ℕ) (place at n : ℕ) (old c : List ℕ) → place ≡ length front + at → Torn place n (front ++ old) c
+pub torn_past : (front : List ℕ) (place at n : ℕ) (old c : List ℕ) → place ≡ length front + at
+    → Torn place n (front ++ old) c
     → (d : List ℕ) × (c ≡ front ++ d) × Torn at n old d
 torn_past [] place at n old c is torn = (c, refl, subst (λ (k : ℕ). Torn k n old c) (omega (arith, is)) torn)
 torn_past (x ∷ front) place at n old c is torn =

@@ -25,7 +25,8 @@ take_in_zeros at m file room (inr within) =
 drop_zeros : (end m : ℕ) (file : List ℕ) → m ≡ end - length file → (length file < end) ⊎ (end ≤ length file)
     → drop end (file ++ replicate m 0) ≡ drop end file
 drop_zeros end m file room (inl past) =
-    drop_all end (file ++ replicate m 0) (omega (arith, length-append file (replicate m 0), length-replicate {A = ℕ} m 0))
+    drop_all end (file ++ replicate m 0) (omega
+    (arith, length-append file (replicate m 0), length-replicate {A = ℕ} m 0))
     ∙ sym (drop_all end file (omega arith))
 drop_zeros end m file room (inr within) =
     ap (λ (l : List ℕ). drop end (file ++ l)) (none m (omega arith)) ∙ ap (drop end) (append-nil file)

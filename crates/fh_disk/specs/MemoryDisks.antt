@@ -25,7 +25,8 @@ images_of disk = left_by disk.past
 
 -- the clock of moments goes on
 abbrev pub TimeGoesOn : MemoryDisk → MemoryDisk → Type 0
-TimeGoesOn old new = Elapses (moment_of old.past) (moment_of new.past) (left_since_by old.past) (left_since_by new.past) (left_by new.past)
+TimeGoesOn old new = Elapses (moment_of old.past) (moment_of new.past) (left_since_by old.past)
+    (left_since_by new.past) (left_by new.past)
 
 abbrev pub calls_of : Option Recorded → List Call
 calls_of None = []

@@ -9,10 +9,12 @@ use Rattle.fh_disk.specs.Recorded.{Recorded, replayed, Leaves, LeavesAfter, told
 use Rattle.fh_disk.specs.Torn.{torn_written}
 
 -- what reads give is one of the images
-pub leaves_replayed : (file : List ℕ) (images : List ℕ → Type 0) (calls : List Call) → images file → Leaves file images calls (replayed file calls)
+pub leaves_replayed : (file : List ℕ) (images : List ℕ → Type 0) (calls : List Call) → images file
+    → Leaves file images calls (replayed file calls)
 leaves_replayed file images [] here = here
 leaves_replayed file images (Write at bytes ∷ later) here =
-    leaves_replayed (written_at at bytes file) (λ new. (old : List ℕ) × images old × Torn at (length bytes) old new) later (file, here, torn_written at bytes file)
+    leaves_replayed (written_at at bytes file) (λ new. (old : List ℕ) × images old × Torn at (length bytes) old new)
+    later (file, here, torn_written at bytes file)
 leaves_replayed file images (Sync ∷ later) here = leaves_replayed file (λ new. new ≡ file) later refl
 
 pub some_same : (xs ys : List ℕ) → Some xs ≡ Some ys → xs ≡ ys
@@ -22,7 +24,9 @@ pub reads_as_image_by : (r : Option Recorded) (file : List ℕ) → told_by r �
 reads_as_image_by None file told = tt
 reads_as_image_by (Some r) file told =
     subst (left_by (Some r)) (some_same (replayed r.first r.calls) file told)
-    (subst (λ (calls : List Call). Leaves r.first (λ new. new ≡ r.first) calls (replayed r.first r.calls)) (sym (take_all (length r.calls) r.calls (omega arith))) (leaves_replayed r.first (λ new. new ≡ r.first) r.calls refl))
+    (subst (λ (calls : List Call). Leaves r.first (λ new. new ≡ r.first) calls (replayed r.first r.calls))
+    (sym (take_all (length r.calls) r.calls (omega arith)))
+    (leaves_replayed r.first (λ new. new ≡ r.first) r.calls refl))
 
 pub counts_now_by : (r : Option Recorded) (t : ℕ) (c : List ℕ) → t ≤ moment_of r → left_by r c → left_since_by r t c
 counts_now_by None t c earlier left = tt

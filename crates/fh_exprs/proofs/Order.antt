@@ -11,11 +11,13 @@ cmp_le x y xs ys h = elim (cases_order x y) [
   | inl same ↦ omega arith
   | inr other ↦ (elim other [
     | inl less ↦ omega arith
-    | inr greater ↦ absurd (h (ap (λ o. ordering_then o (slice_cmp nat_cmp xs ys)) (sym (nat_cmp_is x y Greater greater))))
+    | inr greater ↦ absurd (h
+        (ap (λ o. ordering_then o (slice_cmp nat_cmp xs ys)) (sym (nat_cmp_is x y Greater greater))))
   ])
 ]
 
-pub cmp_rest : (x y : ℕ) (xs ys : List ℕ) → x ≡ y → slice_cmp nat_cmp (x ∷ xs) (y ∷ ys) ≢ Greater → slice_cmp nat_cmp xs ys ≢ Greater
+pub cmp_rest : (x y : ℕ) (xs ys : List ℕ) → x ≡ y → slice_cmp nat_cmp (x ∷ xs) (y ∷ ys) ≢ Greater
+    → slice_cmp nat_cmp xs ys ≢ Greater
 cmp_rest x y xs ys e h g = h (ap (λ o. ordering_then o (slice_cmp nat_cmp xs ys)) (sym (nat_cmp_is x y Equal e)) ∙ g)
 
 pub cmp_not_greater : (x y : ℕ) (xs ys : List ℕ) → x ≤ y → (x ≡ y → slice_cmp nat_cmp xs ys ≢ Greater)
@@ -23,7 +25,8 @@ pub cmp_not_greater : (x y : ℕ) (xs ys : List ℕ) → x ≤ y → (x ≡ y �
 cmp_not_greater x y xs ys le h g = elim (cases_order x y) [
   | inl same ↦ h same (ap (λ o. ordering_then o (slice_cmp nat_cmp xs ys)) (nat_cmp_is x y Equal same) ∙ g)
   | inr other ↦ (elim other [
-    | inl less ↦ (let e : Less ≡ Greater = ap (λ o. ordering_then o (slice_cmp nat_cmp xs ys)) (nat_cmp_is x y Less less) ∙ g in cc)
+    | inl less ↦ (let e : Less ≡ Greater = ap (λ o. ordering_then o (slice_cmp nat_cmp xs ys))
+        (nat_cmp_is x y Less less) ∙ g in cc)
     | inr greater ↦ absurd (omega arith)
   ])
 ]

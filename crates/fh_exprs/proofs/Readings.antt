@@ -24,7 +24,8 @@ nothing_read name = record {
         → slice_cmp nat_cmp (length other ∷ map length others) (length name ∷ []) ≢ Greater
     only other [] tail =
         let same : length other ≡ length name = ap length (sym (tail.whole ∙ append-nil other)) in
-        cmp_not_greater (length other) (length name) [] [] (omega arith) (λ e g. absurd (let h : slice_cmp nat_cmp [] [] ≡ Greater = g in cc))
+        cmp_not_greater (length other) (length name) [] [] (omega arith)
+        (λ e g. absurd (let h : slice_cmp nat_cmp [] [] ≡ Greater = g in cc))
     only other (t ∷ ts) tail = absurd (let h = tail.one_each in omega arith)
 
 -- a text for one more spot, and what is left before it, leave this before the spots behind it
@@ -41,18 +42,22 @@ tail_behind spot spots name other text texts tail = record {
 abbrev pub ArePlain : List Spot → Type 0
 ArePlain spots = AllByRecursion (λ (spot : Spot). IsUtf8 spot.0) spots
 
-spelled_utf8 : (spots : List Spot) (texts : List (List ℕ)) → ArePlain spots → AllByRecursion IsFilledText texts → IsUtf8 (spelled spots [] texts)
+spelled_utf8 : (spots : List Spot) (texts : List (List ℕ)) → ArePlain spots → AllByRecursion IsFilledText texts
+    → IsUtf8 (spelled spots [] texts)
 spelled_utf8 [] texts plain filled = ([], (refl, refl))
-spelled_utf8 (spot ∷ spots) [] plain filled = IsUtf8-append spot.0 (spelled spots [] []) plain.0 (spelled_utf8 spots [] plain.1 tt)
+spelled_utf8 (spot ∷ spots) [] plain filled = IsUtf8-append spot.0 (spelled spots [] []) plain.0
+    (spelled_utf8 spots [] plain.1 tt)
 spelled_utf8 (spot ∷ spots) (text ∷ texts) plain filled =
     IsUtf8-append spot.0 (text ++ spelled spots [] texts) plain.0
     (IsUtf8-append text (spelled spots [] texts) filled.0.utf8 (spelled_utf8 spots texts plain.1 filled.1))
 
-left_utf8 : (spots : List Spot) (name other : List ℕ) (texts : List (List ℕ)) → IsUtf8 name → ArePlain spots → IsTail spots name other texts → IsUtf8 other
+left_utf8 : (spots : List Spot) (name other : List ℕ) (texts : List (List ℕ)) → IsUtf8 name → ArePlain spots
+    → IsTail spots name other texts → IsUtf8 other
 left_utf8 spots name other texts utf8 plain tail =
     subst IsUtf8 (ap (take (length other)) tail.whole ∙ take_at other (spelled spots [] texts) (length other) refl)
     (IsUtf8-take name (length other) utf8
-    (IsCharBoundary-at_seam name other (spelled spots [] texts) tail.whole (spelled_utf8 spots texts plain tail.characters)))
+    (IsCharBoundary-at_seam name other (spelled spots [] texts) tail.whole
+    (spelled_utf8 spots texts plain tail.characters)))
 
 -- what is left before the spots has a place of the spot's plain text with the text behind it
 place_of : (spot : Spot) (spots : List Spot) (name rest other text : List ℕ) (texts found : List (List ℕ))
@@ -63,14 +68,18 @@ place_of spot spots name rest other text texts found best tail =
     let le = cmp_le (length (other ++ (spot.0 ++ text))) (length rest) (map length texts) (map length found)
     (best.greatest (other ++ (spot.0 ++ text)) texts behind) in
     let part = front_part (other ++ (spot.0 ++ text)) rest (spelled spots [] texts) (spelled spots [] found)
-    (sym behind.whole ∙ best.reads.whole) le in
-    (part.0, part.1 ∙ append_assoc other (spot.0 ++ text) part.0 ∙ ap (λ t. other ++ t) (append_assoc spot.0 text part.0))
+    (sym behind.whole ∙ best.reads.whole) le in (
+      part.0,
+      part.1 ∙ append_assoc other (spot.0 ++ text) part.0
+          ∙ ap (λ t. other ++ t) (append_assoc spot.0 text part.0),
+    )
 
 filled_by : (text z : List ℕ) → IsFilledText text → text ++ z ≢ []
 filled_by [] z filled none = filled.filled refl
 filled_by (x ∷ text) z filled none = absurd (let h : length (x ∷ (text ++ z)) ≡ 0 = ap length none in omega arith)
 
-pub one_more : (spot : Spot) (spots : List Spot) (name rest front behind : List ℕ) (found : List (List ℕ)) → IsUtf8 name → ArePlain (spot ∷ spots)
+pub one_more : (spot : Spot) (spots : List Spot) (name rest front behind : List ℕ) (found : List (List ℕ))
+    → IsUtf8 name → ArePlain (spot ∷ spots)
     → IsGreatestTail spots name rest found → IsLastCut rest spot.0 front behind
     → IsGreatestTail (spot ∷ spots) name front (behind ∷ found)
 one_more spot spots name rest front behind found utf8 plain best cut = record {
@@ -85,31 +94,42 @@ one_more spot spots name rest front behind found utf8 plain best cut = record {
 }
   where
     greatest : (other : List ℕ) (others : List (List ℕ)) → IsTail (spot ∷ spots) name other others
-        → slice_cmp nat_cmp (length other ∷ map length others) (length front ∷ length behind ∷ map length found) ≢ Greater
+        → slice_cmp nat_cmp (length other ∷ map length others) (length front ∷ length behind ∷ map length found)
+        ≢ Greater
     greatest other [] tail = absurd (let h = tail.one_each in omega arith)
     greatest other (text ∷ texts) tail =
         let place = place_of spot spots name rest other text texts found best tail in
-        let back = cut.last other (text ++ place.0) (left_utf8 (spot ∷ spots) name other (text ∷ texts) utf8 plain tail) (filled_by text place.0 tail.characters.0) place.1 in
-        let known = best.greatest (other ++ (spot.0 ++ text)) texts (tail_behind spot spots name other text texts tail) in
-        let le = cmp_le (length (other ++ (spot.0 ++ text))) (length rest) (map length texts) (map length found) known in
+        let back = cut.last other (text ++ place.0)
+        (left_utf8 (spot ∷ spots) name other (text ∷ texts) utf8 plain tail)
+        (filled_by text place.0 tail.characters.0) place.1 in
+        let known = best.greatest (other ++ (spot.0 ++ text)) texts (tail_behind spot spots name other text texts tail)
+        in
+        let le = cmp_le (length (other ++ (spot.0 ++ text))) (length rest) (map length texts) (map length found)
+        known in
         let a = length-append other (spot.0 ++ text) in
         let b = length-append spot.0 text in
         let whole : length rest ≡ length front + (length spot.0 + length behind) =
-        ap length cut.whole ∙ length-append front (spot.0 ++ behind) ∙ ap (λ n. length front + n) (length-append spot.0 behind) in
-        cmp_not_greater (length other) (length front) (length text ∷ map length texts) (length behind ∷ map length found) back
+        ap length cut.whole ∙ length-append front (spot.0 ++ behind)
+        ∙ ap (λ n. length front + n) (length-append spot.0 behind) in
+        cmp_not_greater (length other) (length front) (length text ∷ map length texts)
+        (length behind ∷ map length found) back
         (λ same. cmp_not_greater (length text) (length behind) (map length texts) (map length found) (omega arith)
-        (λ alike. cmp_rest (length (other ++ (spot.0 ++ text))) (length rest) (map length texts) (map length found) (omega arith) known))
+        (λ alike. cmp_rest (length (other ++ (spot.0 ++ text))) (length rest) (map length texts) (map length found)
+        (omega arith) known))
 
-pub none_more : (spot : Spot) (spots : List Spot) (name rest : List ℕ) (found : List (List ℕ)) → IsUtf8 name → ArePlain (spot ∷ spots)
+pub none_more : (spot : Spot) (spots : List Spot) (name rest : List ℕ) (found : List (List ℕ)) → IsUtf8 name
+    → ArePlain (spot ∷ spots)
     → IsGreatestTail spots name rest found → HasNoCut rest spot.0
     → (other : List ℕ) (others : List (List ℕ)) → IsTail (spot ∷ spots) name other others → ⊥
 none_more spot spots name rest found utf8 plain best none other [] tail = absurd (let h = tail.one_each in omega arith)
 none_more spot spots name rest found utf8 plain best none other (text ∷ texts) tail =
     let place = place_of spot spots name rest other text texts found best tail in
-    none other (text ++ place.0) (left_utf8 (spot ∷ spots) name other (text ∷ texts) utf8 plain tail) (filled_by text place.0 tail.characters.0) place.1
+    none other (text ++ place.0) (left_utf8 (spot ∷ spots) name other (text ∷ texts) utf8 plain tail)
+    (filled_by text place.0 tail.characters.0) place.1
 
 -- no tail of the places behind some of them, no tail of them all
-pub tail_dropped : (k : ℕ) (spots : List Spot) (name other : List ℕ) (others : List (List ℕ)) → IsTail spots name other others
+pub tail_dropped : (k : ℕ) (spots : List Spot) (name other : List ℕ) (others : List (List ℕ))
+    → IsTail spots name other others
     → (rest : List ℕ) × (texts : List (List ℕ)) × IsTail (drop k spots) name rest texts
 tail_dropped zero spots name other others tail = (other, others, tail)
 tail_dropped (suc k) [] name other others tail = (other, others, tail)
@@ -118,20 +138,25 @@ tail_dropped (suc k) (spot ∷ spots) name other (text ∷ texts) tail =
     tail_dropped k spots name (other ++ (spot.0 ++ text)) texts (tail_behind spot spots name other text texts tail)
 
 -- the loop's step
-pub spot_at : (spots : List Spot) (left : ℕ) (spot : Spot) → 0 < left → left ≤ length spots → spot ≡ get_or spots (left - 1) spot
+pub spot_at : (spots : List Spot) (left : ℕ) (spot : Spot) → 0 < left → left ≤ length spots
+    → spot ≡ get_or spots (left - 1) spot
     → drop (left - 1) spots ≡ spot ∷ drop left spots
 spot_at spots left spot pos within is =
     let back : (left - 1) + 1 ≡ left = omega arith in
-    drop_more spots (left - 1) spot (omega arith) ∙ ap (λ s. s ∷ drop ((left - 1) + 1) spots) (sym is) ∙ ap (λ k. spot ∷ drop k spots) back
+    drop_more spots (left - 1) spot (omega arith) ∙ ap (λ s. s ∷ drop ((left - 1) + 1) spots) (sym is)
+    ∙ ap (λ k. spot ∷ drop k spots) back
 
-pub ends_more : (spot : Spot) (spots : List Spot) (name rest front text : List ℕ) (pairs : List (List ℕ × List ℕ)) → IsUtf8 name
+pub ends_more : (spot : Spot) (spots : List Spot) (name rest front text : List ℕ) (pairs : List (List ℕ × List ℕ))
+    → IsUtf8 name
     → ArePlain (spot ∷ spots) → EndsAs spots name rest pairs → IsLastCut rest spot.0 front text
     → EndsAs (spot ∷ spots) name front (pairs ++ (spot.1, text) ∷ [])
 ends_more spot spots name rest front text pairs utf8 plain ends cut =
-    let back : reverse (pairs ++ (spot.1, text) ∷ []) ≡ (spot.1, text) ∷ reverse pairs = reverse-append pairs ((spot.1, text) ∷ []) in
+    let back : reverse (pairs ++ (spot.1, text) ∷ []) ≡ (spot.1, text) ∷ reverse pairs =
+    reverse-append pairs ((spot.1, text) ∷ []) in
     record {
       names = ap (map (λ p. p.0)) back ∙ ap (λ ns. spot.1 ∷ ns) ends.names;
-      texts = subst (λ (ps : List (List ℕ × List ℕ)). IsGreatestTail (spot ∷ spots) name front (map (λ p. p.1) ps)) (sym back)
+      texts = subst (λ (ps : List (List ℕ × List ℕ)). IsGreatestTail (spot ∷ spots) name front (map (λ p. p.1) ps))
+          (sym back)
           (one_more spot spots name rest front text (map (λ p. p.1) (reverse pairs)) utf8 plain ends.texts cut);
     }
 
@@ -149,7 +174,8 @@ whole_reading first others name rest text found best e filled = record {
   reads = record {
     one_each = (let h = best.reads.one_each in omega arith);
     characters = (filled, best.reads.characters);
-    whole = best.reads.whole ∙ ap (λ t. t ++ spelled others [] found) e ∙ append_assoc first.0 text (spelled others [] found);
+    whole = best.reads.whole ∙ ap (λ t. t ++ spelled others [] found) e
+        ∙ append_assoc first.0 text (spelled others [] found);
   };
   greatest = greatest;
 }
@@ -182,20 +208,26 @@ no_tail_no_reading first others name [] none reading = absurd (let h = reading.o
 no_tail_no_reading first others name (text ∷ texts) none reading =
     none (first.0 ++ text) texts (reading_behind first others name text texts reading)
 
-pub front_reads : (first : Spot) (others : List Spot) (name rest text : List ℕ) (pairs : List (List ℕ × List ℕ)) → EndsAs others name rest pairs
-    → rest ≡ first.0 ++ text → IsFilledText text → ReadsAs (layout_of (first ∷ others) []) name (reverse (pairs ++ (first.1, text) ∷ []))
+pub front_reads : (first : Spot) (others : List Spot) (name rest text : List ℕ) (pairs : List (List ℕ × List ℕ))
+    → EndsAs others name rest pairs
+    → rest ≡ first.0 ++ text → IsFilledText text → ReadsAs (layout_of (first ∷ others) []) name
+    (reverse (pairs ++ (first.1, text) ∷ []))
 front_reads first others name rest text pairs ends e filled =
-    let back : reverse (pairs ++ (first.1, text) ∷ []) ≡ (first.1, text) ∷ reverse pairs = reverse-append pairs ((first.1, text) ∷ []) in
+    let back : reverse (pairs ++ (first.1, text) ∷ []) ≡ (first.1, text) ∷ reverse pairs =
+    reverse-append pairs ((first.1, text) ∷ []) in
     record {
       names = ap (map (λ p. p.0)) back ∙ ap (λ ns. first.1 ∷ ns) ends.names;
-      texts = subst (λ (ps : List (List ℕ × List ℕ)). IsGreatestReading (layout_of (first ∷ others) []) name (map (λ p. p.1) ps)) (sym back)
+      texts = subst (λ (ps : List (List ℕ × List ℕ)). IsGreatestReading (layout_of (first ∷ others) []) name
+          (map (λ p. p.1) ps)) (sym back)
           (whole_reading first others name rest text (map (λ p. p.1) (reverse pairs)) ends.texts e filled);
     }
 
 -- the plain text at the end
-pub spelled_last : (spots : List Spot) (last : List ℕ) (texts : List (List ℕ)) → spelled spots last texts ≡ spelled spots [] texts ++ last
+pub spelled_last : (spots : List Spot) (last : List ℕ) (texts : List (List ℕ))
+    → spelled spots last texts ≡ spelled spots [] texts ++ last
 spelled_last [] last texts = refl
-spelled_last (spot ∷ spots) last [] = ap (λ t. spot.0 ++ t) (spelled_last spots last []) ∙ sym (append_assoc spot.0 (spelled spots [] []) last)
+spelled_last (spot ∷ spots) last [] = ap (λ t. spot.0 ++ t) (spelled_last spots last [])
+    ∙ sym (append_assoc spot.0 (spelled spots [] []) last)
 spelled_last (spot ∷ spots) last (text ∷ texts) =
     ap (λ t. spot.0 ++ (text ++ t)) (spelled_last spots last texts)
     ∙ ap (λ t. spot.0 ++ t) (sym (append_assoc text (spelled spots [] texts) last))
@@ -206,7 +238,8 @@ pub without_last : (spots : List Spot) (last front name : List ℕ) (texts : Lis
 without_last spots last front name texts e reading = record {
   one_each = reading.one_each;
   characters = reading.characters;
-  whole = append_cancel_right front (spelled spots [] texts) last (sym e ∙ reading.whole ∙ spelled_last spots last texts);
+  whole = append_cancel_right front (spelled spots [] texts) last
+      (sym e ∙ reading.whole ∙ spelled_last spots last texts);
 }
 
 pub with_last : (spots : List Spot) (last front name : List ℕ) (texts : List (List ℕ)) → name ≡ front ++ last
@@ -217,7 +250,8 @@ with_last spots last front name texts e reading = record {
   whole = e ∙ ap (λ t. t ++ last) reading.whole ∙ sym (spelled_last spots last texts);
 }
 
-pub reads_with_last : (spots : List Spot) (last front name : List ℕ) (pairs : List (List ℕ × List ℕ)) → name ≡ front ++ last
+pub reads_with_last : (spots : List Spot) (last front name : List ℕ) (pairs : List (List ℕ × List ℕ))
+    → name ≡ front ++ last
     → ReadsAs (layout_of spots []) front pairs → ReadsAs (layout_of spots last) name pairs
 reads_with_last spots last front name pairs e reads = record {
   names = reads.names;
@@ -227,13 +261,18 @@ reads_with_last spots last front name pairs e reads = record {
   };
 }
 
-pub answer_with_last : {V : Type 0} (items : V → List (List ℕ × List ℕ)) (spots : List Spot) (last front name : List ℕ) → name ≡ front ++ last
+pub answer_with_last : {V : Type 0} (items : V → List (List ℕ × List ℕ)) (spots : List Spot) (last front name : List ℕ)
+    → name ≡ front ++ last
     → (found : Option V)
-    → MatchOption found ((texts : List (List ℕ)) → IsReading (layout_of spots []) front texts → ⊥) (λ v. ReadsAs (layout_of spots []) front (items v))
-    → MatchOption found ((texts : List (List ℕ)) → IsReading (layout_of spots last) name texts → ⊥) (λ v. ReadsAs (layout_of spots last) name (items v))
-answer_with_last items spots last front name e None none = λ texts reading. none texts (without_last spots last front name texts e reading)
+    → MatchOption found ((texts : List (List ℕ)) → IsReading (layout_of spots []) front texts → ⊥)
+    (λ v. ReadsAs (layout_of spots []) front (items v))
+    → MatchOption found ((texts : List (List ℕ)) → IsReading (layout_of spots last) name texts → ⊥)
+    (λ v. ReadsAs (layout_of spots last) name (items v))
+answer_with_last items spots last front name e None none =
+    λ texts reading. none texts (without_last spots last front name texts e reading)
 answer_with_last items spots last front name e (Some v) reads = reads_with_last spots last front name (items v) e reads
 
 pub other_end : (spots : List Spot) (last name : List ℕ) → ((front : List ℕ) → name ≢ front ++ last)
     → (texts : List (List ℕ)) → IsReading (layout_of spots last) name texts → ⊥
-other_end spots last name none texts reading = none (spelled spots [] texts) (reading.whole ∙ spelled_last spots last texts)
+other_end spots last name none texts reading = none (spelled spots [] texts)
+    (reading.whole ∙ spelled_last spots last texts)

@@ -19,7 +19,8 @@ abbrev pub onto : List ℕ × List ℕ → Option (List (List ℕ × List ℕ)) 
 onto pair pairs = option_map (λ more. pair ∷ more) pairs
 
 -- the name with the longest text, of at most n bytes of `text`, that lets the rest match
-unfoldable pub longest : List ℕ → (List ℕ → Option (List (List ℕ × List ℕ))) → List ℕ → ℕ → Option (List (List ℕ × List ℕ))
+unfoldable pub longest : List ℕ → (List ℕ → Option (List (List ℕ × List ℕ))) → List ℕ → ℕ
+    → Option (List (List ℕ × List ℕ))
 longest name rest text zero = None
 longest name rest text (suc n) =
     option_or (if is_utf8 (take (suc n) text) then onto (name, take (suc n) text) (rest (drop (suc n) text)) else None)

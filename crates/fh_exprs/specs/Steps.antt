@@ -32,7 +32,8 @@ IsWithoutSettings text = (settings : List (List ℕ × List ℕ)) → replaced s
 -- the text's first two percent signs have this between them
 abbrev pub BeginsWithSetting : List ℕ → List ℕ → List ℕ → List ℕ → Type 0
 BeginsWithSetting text before name rest = (settings : List (List ℕ × List ℕ))
-    → replaced settings text ≡ joined (λ value more. before ++ (value ++ more)) (replacement settings name) (replaced settings rest)
+    → replaced settings text ≡ joined (λ value more. before ++ (value ++ more)) (replacement settings name)
+    (replaced settings rest)
 
 -- on success, what was changed is now what is given
 abbrev pub Leaves : {U T : Type 0} → Result U ExprFault → T → Result T ExprFault → Type 0

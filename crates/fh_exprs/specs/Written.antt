@@ -11,7 +11,8 @@ doubled (b ∷ text) = if is_brace b then b ∷ (b ∷ doubled text) else b ∷ 
 
 abbrev pub written_spots : List Spot → List ℕ → List ℕ
 written_spots [] last = doubled last
-written_spots (spot ∷ spots) last = doubled spot.0 ++ (open_brace ∷ (spot.1 ++ (close_brace ∷ written_spots spots last)))
+written_spots (spot ∷ spots) last = doubled spot.0
+    ++ (open_brace ∷ (spot.1 ++ (close_brace ∷ written_spots spots last)))
 
 -- the plain texts and, between braces, the names
 abbrev pub written : Layout → List ℕ

@@ -24,10 +24,12 @@ push : (first : List ℕ) (payloads : List (List ℕ)) (payload : List ℕ)
     → first ++ flat_map frame (payloads ++ payload ∷ []) ≡ (first ++ flat_map frame payloads) ++ frame payload
 push first payloads payload =
     ap (λ (l : List ℕ). first ++ l)
-    (flat_map-append frame payloads (payload ∷ []) ∙ ap (λ (l : List ℕ). flat_map frame payloads ++ l) (append-nil (frame payload)))
+    (flat_map-append frame payloads (payload ∷ []) ∙ ap (λ (l : List ℕ). flat_map frame payloads ++ l)
+    (append-nil (frame payload)))
     ∙ sym (append_assoc first (flat_map frame payloads) (frame payload))
 
-pub opened-push : (payloads : List (List ℕ)) (payload : List ℕ) → opened (payloads ++ payload ∷ []) ≡ opened payloads ++ frame payload
+pub opened-push : (payloads : List (List ℕ)) (payload : List ℕ)
+    → opened (payloads ++ payload ∷ []) ≡ opened payloads ++ frame payload
 opened-push payloads payload = push header payloads payload
 
 -- the two writes of an append
@@ -46,7 +48,8 @@ staged payloads payload bytes file gate is short stands =
       place = stands.place;
       whole =
           ap (written_at (gate + 1) bytes) (stands.whole ∙ sym (append_assoc front (stands.closed ∷ []) stands.rest))
-          ∙ written_inside (front ++ stands.closed ∷ []) stands.rest bytes (gate + 1) (omega (arith, stands.place, length-append front (stands.closed ∷ [])))
+          ∙ written_inside (front ++ stands.closed ∷ []) stands.rest bytes (gate + 1)
+          (omega (arith, stands.place, length-append front (stands.closed ∷ [])))
           ∙ append_assoc front (stands.closed ∷ []) (bytes ++ rest)
           ∙ ap (λ (l : List ℕ). front ++ stands.closed ∷ (l ++ rest)) is
           ∙ ap (λ (l : List ℕ). front ++ stands.closed ∷ l) (append_assoc (size ++ payload) (0 ∷ []) rest);
@@ -59,10 +62,12 @@ gated : (payloads : List (List ℕ)) (failed file : List ℕ) (gate value : ℕ)
     ≡ opened payloads ++ value ∷ (to_be_bytes w32 (length failed) ++ failed ++ doubt.closed ∷ doubt.rest)
 gated payloads failed file gate value doubt =
     let back = to_be_bytes w32 (length failed) ++ failed ++ doubt.closed ∷ doubt.rest in
-    ap (written_at gate (value ∷ [])) doubt.whole ∙ written_inside (opened payloads) (doubt.either ∷ back) (value ∷ []) gate (sym doubt.place)
+    ap (written_at gate (value ∷ [])) doubt.whole ∙ written_inside (opened payloads) (doubt.either ∷ back) (value ∷ [])
+    gate (sym doubt.place)
 
 -- a whole frame behind an open gate counts
-opens : (payloads : List (List ℕ)) (failed file : List ℕ) (gate closed : ℕ) (rest : List ℕ) → closed ≢ 1 → gate ≡ length (opened payloads)
+opens : (payloads : List (List ℕ)) (failed file : List ℕ) (gate closed : ℕ) (rest : List ℕ) → closed ≢ 1
+    → gate ≡ length (opened payloads)
     → All IsShort payloads → IsShort failed
     → file ≡ opened payloads ++ 1 ∷ (to_be_bytes w32 (length failed) ++ failed ++ closed ∷ rest)
     → Stands file (payloads ++ failed ∷ []) (gate + 5 + length failed)
@@ -72,7 +77,13 @@ opens payloads failed file gate closed rest shut place short failed_short is =
       closed = closed;
       rest = rest;
       shut = shut;
-      place = omega (arith, place, ap length (opened-push payloads failed), length-append (opened payloads) (frame failed), length-append size failed);
+      place = omega (
+        arith,
+        place,
+        ap length (opened-push payloads failed),
+        length-append (opened payloads) (frame failed),
+        length-append size failed,
+      );
       whole =
           is
           ∙ sym (append_assoc (opened payloads) (frame failed) (closed ∷ rest))
@@ -83,7 +94,8 @@ opens payloads failed file gate closed rest shut place short failed_short is =
 pub opens_gate : (payloads : List (List ℕ)) (failed file : List ℕ) (gate : ℕ) → InDoubt file payloads failed gate
     → Stands (written_at gate (1 ∷ []) file) (payloads ++ failed ∷ []) (gate + 5 + length failed)
 opens_gate payloads failed file gate doubt =
-    opens payloads failed _ gate doubt.closed doubt.rest doubt.shut doubt.place doubt.short doubt.failed_short (gated payloads failed file gate 1 doubt)
+    opens payloads failed _ gate doubt.closed doubt.rest doubt.shut doubt.place doubt.short doubt.failed_short
+    (gated payloads failed file gate 1 doubt)
 
 pub closes_gate : (payloads : List (List ℕ)) (failed file : List ℕ) (gate : ℕ) → InDoubt file payloads failed gate
     → Stands (written_at gate (0 ∷ []) file) payloads gate
@@ -100,7 +112,8 @@ put_behind : (front c back other : List ℕ) → c ≡ front ++ back → back �
 put_behind front c back other is same = is ∙ ap (λ (l : List ℕ). front ++ l) same
 
 -- a write behind the gate leaves it closed, also where it is cut short
-pub stays_closed : (payloads : List (List ℕ)) (gate n : ℕ) (old c : List ℕ) → Stands old payloads gate → Torn (gate + 1) n old c → Stands c payloads gate
+pub stays_closed : (payloads : List (List ℕ)) (gate n : ℕ) (old c : List ℕ) → Stands old payloads gate
+    → Torn (gate + 1) n old c → Stands c payloads gate
 stays_closed payloads gate n old c stands torn =
     let past = torn_past (opened payloads) (gate + 1) 1 n (stands.closed ∷ stands.rest) c (omega (arith, stands.place))
     (subst (λ (l : List ℕ). Torn (gate + 1) n l c) stands.whole torn) in
@@ -115,7 +128,8 @@ stays_closed payloads gate n old c stands torn =
     }
 
 -- a write of the gate leaves it open or not
-pub stays_in_doubt : (payloads : List (List ℕ)) (failed : List ℕ) (gate : ℕ) (old c : List ℕ) → InDoubt old payloads failed gate
+pub stays_in_doubt : (payloads : List (List ℕ)) (failed : List ℕ) (gate : ℕ) (old c : List ℕ)
+    → InDoubt old payloads failed gate
     → Torn gate 1 old c → InDoubt c payloads failed gate
 stays_in_doubt payloads failed gate old c doubt torn =
     let back = to_be_bytes w32 (length failed) ++ failed ++ doubt.closed ∷ doubt.rest in
@@ -134,14 +148,16 @@ stays_in_doubt payloads failed gate old c doubt torn =
     }
 
 -- a file in doubt is read with the frame or without it
-pub doubt_reads : (payloads : List (List ℕ)) (failed : List ℕ) (gate : ℕ) (file : List ℕ) → InDoubt file payloads failed gate
+pub doubt_reads : (payloads : List (List ℕ)) (failed : List ℕ) (gate : ℕ) (file : List ℕ)
+    → InDoubt file payloads failed gate
     → MayReadAs true payloads failed file
 doubt_reads payloads failed gate file doubt = elim (cases_eq doubt.either 1) [
   | inl is_open ↦ inr (
     refl,
     inr (
       gate + 5 + length failed,
-      opens payloads failed file gate doubt.closed doubt.rest doubt.shut doubt.place doubt.short doubt.failed_short (doubt.whole ∙ at_gate is_open),
+      opens payloads failed file gate doubt.closed doubt.rest doubt.shut doubt.place doubt.short doubt.failed_short
+          (doubt.whole ∙ at_gate is_open),
     ),
   )
   | inr shut ↦ inl (inr (
@@ -157,11 +173,14 @@ doubt_reads payloads failed gate file doubt = elim (cases_eq doubt.either 1) [
   ))
 ]
   where
-    at_gate : doubt.either ≡ 1 → opened payloads ++ doubt.either ∷ (to_be_bytes w32 (length failed) ++ failed ++ doubt.closed ∷ doubt.rest)
+    at_gate : doubt.either ≡ 1 → opened payloads ++ doubt.either ∷
+        (to_be_bytes w32 (length failed) ++ failed ++ doubt.closed ∷ doubt.rest)
         ≡ opened payloads ++ 1 ∷ (to_be_bytes w32 (length failed) ++ failed ++ doubt.closed ∷ doubt.rest)
-    at_gate is = ap (λ (n : ℕ). opened payloads ++ n ∷ (to_be_bytes w32 (length failed) ++ failed ++ doubt.closed ∷ doubt.rest)) is
+    at_gate is = ap (λ (n : ℕ). opened payloads ++ n ∷
+        (to_be_bytes w32 (length failed) ++ failed ++ doubt.closed ∷ doubt.rest)) is
 
-pub reads : (torn : Bool) (payloads : List (List ℕ)) (failed : List ℕ) (gate : ℕ) (file : List ℕ) → IsOf torn payloads failed gate file
+pub reads : (torn : Bool) (payloads : List (List ℕ)) (failed : List ℕ) (gate : ℕ) (file : List ℕ)
+    → IsOf torn payloads failed gate file
     → MayReadAs torn payloads failed file
 reads false payloads failed gate file stands = inl (inr (gate, stands))
 reads true payloads failed gate file doubt = doubt_reads payloads failed gate file doubt

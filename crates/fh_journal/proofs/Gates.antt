@@ -11,7 +11,8 @@ use Rattle.fh_journal.specs.declared.faults.MountFault.TheVariants.{BadFrame}
 use Rattle.fh_journal.specs.declared.faults.FrameRule.TheVariants.{Cut, Length}
 
 -- a list of five numbers
-five : (buf : List ℕ) → length buf ≡ 5 → buf ≡ get_or buf 0 0 ∷ get_or buf 1 0 ∷ get_or buf 2 0 ∷ get_or buf 3 0 ∷ get_or buf 4 0 ∷ []
+five : (buf : List ℕ) → length buf ≡ 5 → buf
+    ≡ get_or buf 0 0 ∷ get_or buf 1 0 ∷ get_or buf 2 0 ∷ get_or buf 3 0 ∷ get_or buf 4 0 ∷ []
 five [] long = absurd (omega (arith, long))
 five (a ∷ []) long = absurd (omega (arith, long))
 five (a ∷ b ∷ []) long = absurd (omega (arith, long))
@@ -38,9 +39,11 @@ begun_at file at buf fills long first =
     let rest = drop 5 (drop at file) in
     let here : take 5 (drop at file) ≡ get_or buf 0 0 ∷ field_of buf =
     ap (λ (n : ℕ). take n (drop at file)) (sym long) ∙ sym fills.0 ∙ five buf long in
-    sym (take-append-drop 5 (drop at file)) ∙ ap (λ (l : List ℕ). l ++ rest) here ∙ ap (λ (n : ℕ). n ∷ (field_of buf ++ rest)) first
+    sym (take-append-drop 5 (drop at file)) ∙ ap (λ (l : List ℕ). l ++ rest) here
+    ∙ ap (λ (n : ℕ). n ∷ (field_of buf ++ rest)) first
 
-opens_in : (file : List ℕ) (at : ℕ) (buf : List ℕ) (size : ℕ) → Fills file at buf true → length buf ≡ 5 → ((i : ℕ) → get_or buf i 0 < 256)
+opens_in : (file : List ℕ) (at : ℕ) (buf : List ℕ) (size : ℕ) → Fills file at buf true → length buf ≡ 5
+    → ((i : ℕ) → get_or buf i 0 < 256)
     → get_or buf 0 0 ≡ 1 → size ≡ from_be_bytes w32 (field_of buf) → size ≤ 16777216 → OpensAt file at size
 opens_in file at buf size fills long fit first given short = record {
   behind = field_of buf ++ drop 5 (drop at file);
@@ -55,7 +58,8 @@ pub opens_at : (told : Option (List ℕ)) (end at : ℕ) (buf : List ℕ) (full 
     → IfSome told (λ file. length file ≡ end → OpensAt file at size)
 opens_at None end at buf full size is fills long fit first given short = tt
 opens_at (Some file) end at buf false size is fills long fit first given short = absurd (cc is)
-opens_at (Some file) end at buf true size is fills long fit first given short = λ _. opens_in file at buf size fills long fit first given short
+opens_at (Some file) end at buf true size is fills long fit first given short =
+    λ _. opens_in file at buf size fills long fit first given short
 
 pub too_long_at : (told : Option (List ℕ)) (end at : ℕ) (buf : List ℕ) (full : Bool) (size : ℕ) → full ≡ true
     → IfSome told (λ file. Fills file at buf full) → length buf ≡ 5
@@ -73,11 +77,13 @@ too_long_at (Some file) end at buf true size is fills long first given great = �
 )
 
 -- the bytes behind a gate, of which the file has so many
-length-behind : (file : List ℕ) (at gate : ℕ) (behind : List ℕ) → drop at file ≡ gate ∷ behind → length behind + 1 ≡ length file - at
+length-behind : (file : List ℕ) (at gate : ℕ) (behind : List ℕ) → drop at file ≡ gate ∷ behind
+    → length behind + 1 ≡ length file - at
 length-behind file at gate behind here = omega (arith, ap length here, length-drop at file)
 
 field_is : (file : List ℕ) (at size : ℕ) (opens : OpensAt file at size) → length_field opens.behind ≡ size
-field_is file at size opens = ap (from_be_bytes w32) opens.given ∙ from_be_bytes-to_be_bytes_4 size (omega (arith, opens.short))
+field_is file at size opens = ap (from_be_bytes w32) opens.given
+    ∙ from_be_bytes-to_be_bytes_4 size (omega (arith, opens.short))
 
 cut_in : (file : List ℕ) (at size : ℕ) → OpensAt file at size → length file - at - 5 ≤ size → RuleBrokenAt file at Cut
 cut_in file at size opens short =
@@ -85,12 +91,18 @@ cut_in file at size opens short =
     record {
       behind = opens.behind;
       here = opens.here;
-      breaks = inr (omega (arith, field, opens.short), omega (arith, field, short, length-behind file at 1 opens.behind opens.here));
+      breaks = inr (
+        omega (arith, field, opens.short),
+        omega
+            (arith, field, short, length-behind file at 1 opens.behind opens.here),
+      );
     }
 
 -- the file ends in the payload, or before the gate that must follow
-pub cut_at : (told : Option (List ℕ)) (end at size : ℕ) (found : Option ℕ) (result : Result (Option (List ℕ)) MountFault) → found ≡ Some size
-    → IfSome told (λ file. length file ≡ end → ReadsSize file at (Ok found)) → end - at - 5 ≤ size → result ≡ Err (BadFrame at Cut)
+pub cut_at : (told : Option (List ℕ)) (end at size : ℕ) (found : Option ℕ)
+    (result : Result (Option (List ℕ)) MountFault) → found ≡ Some size
+    → IfSome told (λ file. length file ≡ end → ReadsSize file at (Ok found)) → end - at - 5 ≤ size
+    → result ≡ Err (BadFrame at Cut)
     → IfSome told (λ file. length file ≡ end → ReadsFrame file at result)
 cut_at None end at size found result is reads short refused = tt
 cut_at (Some file) end at size found result is reads short refused = λ long. rw refused (
@@ -98,7 +110,8 @@ cut_at (Some file) end at size found result is reads short refused = λ long. rw
   cut_in file at size (subst (λ (o : Option ℕ). ReadsSize file at (Ok o)) is (reads long)) (omega (arith, long, short)),
 )
 
-frame_in : (file : List ℕ) (at size : ℕ) (buf : List ℕ) → OpensAt file at size → Fills file (at + 5) buf true → length buf ≡ size → FrameAt file at buf
+frame_in : (file : List ℕ) (at size : ℕ) (buf : List ℕ) → OpensAt file at size → Fills file (at + 5) buf true
+    → length buf ≡ size → FrameAt file at buf
 frame_in file at size buf opens fills long =
     let rest = drop size (drop (at + 5) file) in
     let behind : drop 4 opens.behind ≡ drop (at + 5) file = ap (drop 5) (sym opens.here) ∙ drop-drop 5 at file in
@@ -111,12 +124,15 @@ frame_in file at size buf opens fills long =
     ∙ ap (λ (l : List ℕ). to_be_bytes w32 (length buf) ++ l) (behind ∙ payload) in
     record {
       rest = rest;
-      here = opens.here ∙ ap (λ (l : List ℕ). 1 ∷ l) (whole ∙ sym (append_assoc (to_be_bytes w32 (length buf)) buf rest));
+      here = opens.here ∙ ap (λ (l : List ℕ). 1 ∷ l)
+          (whole ∙ sym (append_assoc (to_be_bytes w32 (length buf)) buf rest));
       short = omega (arith, long, opens.short);
     }
 
-pub frame_at : (told : Option (List ℕ)) (end at size : ℕ) (found : Option ℕ) (full : Bool) (buf payload : List ℕ) → found ≡ Some size → full ≡ true
-    → IfSome told (λ file. length file ≡ end → ReadsSize file at (Ok found)) → IfSome told (λ file. Fills file (at + 5) buf full)
+pub frame_at : (told : Option (List ℕ)) (end at size : ℕ) (found : Option ℕ) (full : Bool) (buf payload : List ℕ)
+    → found ≡ Some size → full ≡ true
+    → IfSome told (λ file. length file ≡ end → ReadsSize file at (Ok found))
+    → IfSome told (λ file. Fills file (at + 5) buf full)
     → length buf ≡ size → payload ≡ buf → IfSome told (λ file. length file ≡ end → FrameAt file at payload)
 frame_at None end at size found full buf payload is filled reads fills long same = tt
 frame_at (Some file) end at size found full buf payload is filled reads fills long same = λ whole. rw same (

@@ -9,4 +9,5 @@ payloads_of frames = map (λ frame. frame.payload) frames
 -- a frame for each payload, of which the first has its gate at this place and each next one follows
 abbrev pub frames_from : ℕ → List (List ℕ) → List Frame
 frames_from at [] = []
-frames_from at (payload ∷ payloads) = record { at = at; payload = payload } ∷ frames_from (gate_behind at (length payload)) payloads
+frames_from at (payload ∷ payloads) = record { at = at; payload = payload } ∷ frames_from
+    (gate_behind at (length payload)) payloads

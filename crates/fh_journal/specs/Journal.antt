@@ -67,4 +67,5 @@ IsOf true payloads failed gate file = InDoubt file payloads failed gate
 
 -- what it may be read as: the payloads, and where it is torn also the failed one behind them
 abbrev pub MayReadAs : Bool → List (List ℕ) → List ℕ → List ℕ → Type 0
-MayReadAs torn payloads failed file = IsJournalOf file payloads ⊎ ((torn ≡ true) × IsJournalOf file (payloads ++ failed ∷ []))
+MayReadAs torn payloads failed file = IsJournalOf file payloads
+    ⊎ ((torn ≡ true) × IsJournalOf file (payloads ++ failed ∷ []))

@@ -27,7 +27,8 @@ length_field bytes = from_be_bytes w32 (take 4 bytes)
 -- payload, or before the gate that must follow.
 abbrev pub Breaks : FrameRule → List ℕ → Type 0
 Breaks (Length given) bytes = (4 ≤ length bytes) × (given ≡ length_field bytes) × (longest_payload < given)
-Breaks Cut bytes = (length bytes < 4) ⊎ ((length_field bytes ≤ longest_payload) × (length bytes ≤ 4 + length_field bytes))
+Breaks Cut bytes = (length bytes < 4) ⊎
+    ((length_field bytes ≤ longest_payload) × (length bytes ≤ 4 + length_field bytes))
 
 -- whole frames come first, and the open gate at this place is that of the first one that breaks a rule
 pub record BreaksAt (file : List ℕ) (at : ℕ) (rule : FrameRule) : Type 0 where

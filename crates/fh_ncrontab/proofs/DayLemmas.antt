@@ -35,14 +35,16 @@ no_month_zero s y d year is found from below =
     omega (arith, d.day_in, d.month_in)
 
 -- a month that isn't in the set has no date
-pub no_date_in_month : (s : Schedule) (y m day : ℕ) → m ≤ 12 → ¬ (holds s.month m ≡ true) → HasNoDate s (place y m day) (place y (m + 1) 0)
+pub no_date_in_month : (s : Schedule) (y m day : ℕ) → m ≤ 12 → ¬ (holds s.month m ≡ true)
+    → HasNoDate s (place y m day) (place y (m + 1) 0)
 no_date_in_month s y m day within apart d year is found from below =
     let days = days_in_month_bounds d.year d.month in
     let same : d.month ≡ m = omega (arith, d.day_in, d.month_in) in
     apart (rw same at found.month)
 
 -- nor have the days before the next one in the set
-pub no_date_before : (s : Schedule) (low y m from day : ℕ) → m ≤ 12 → day ≤ 31 → HasNoDate s low (place y m from) → IsNextIn s.day from (Some day) → HasNoDate s low (place y m day)
+pub no_date_before : (s : Schedule) (low y m from day : ℕ) → m ≤ 12 → day ≤ 31 → HasNoDate s low (place y m from)
+    → IsNextIn s.day from (Some day) → HasNoDate s low (place y m day)
 no_date_before s low y m from day within small gap next d year is found above below =
     elim (cases_lt (place year d.month d.day) (place y m from)) [
       | inl lt ↦ gap d year is found above lt
@@ -53,7 +55,8 @@ no_date_before s low y m from day within small gap next d year is found above be
     ]
 
 -- nor has a month that ends before the next day in the set
-pub no_date_past : (s : Schedule) (low y m from day : ℕ) → m ≤ 12 → HasNoDate s low (place y m from) → IsNextIn s.day from (Some day) → days_in_month (pos y) m < day → HasNoDate s low (place y (m + 1) 0)
+pub no_date_past : (s : Schedule) (low y m from day : ℕ) → m ≤ 12 → HasNoDate s low (place y m from)
+    → IsNextIn s.day from (Some day) → days_in_month (pos y) m < day → HasNoDate s low (place y (m + 1) 0)
 no_date_past s low y m from day within gap next short d year is found above below =
     elim (cases_lt (place year d.month d.day) (place y m from)) [
       | inl lt ↦ gap d year is found above lt
@@ -66,14 +69,17 @@ no_date_past s low y m from day within gap next short d year is found above belo
     ]
 
 -- nor has a day of another weekday
-pub no_date_on : (s : Schedule) (low y m : ℕ) (date : Date) → m ≤ 12 → date.year ≡ pos y → date.month ≡ m → HasNoDate s low (place y m date.day) → ¬ (holds s.weekday ((weekday_of date + 1) % 7) ≡ true) → HasNoDate s low (place y m (date.day + 1))
+pub no_date_on : (s : Schedule) (low y m : ℕ) (date : Date) → m ≤ 12 → date.year ≡ pos y → date.month ≡ m
+    → HasNoDate s low (place y m date.day) → ¬ (holds s.weekday ((weekday_of date + 1) % 7) ≡ true)
+    → HasNoDate s low (place y m (date.day + 1))
 no_date_on s low y m date within is_y is_m gap apart d year is found above below =
     elim (cases_lt (place year d.month d.day) (place y m date.day)) [
       | inl lt ↦ gap d year is found above lt
       | inr ge ↦
           let days = days_in_month_bounds d.year d.month in
           let last = days_in_month_bounds date.year date.month in
-          let same : (year ≡ y) × (d.month ≡ m) × (d.day ≡ date.day) = omega (arith, d.day_in, d.month_in, date.day_in) in
+          let same : (year ≡ y) × (d.month ≡ m) × (d.day ≡ date.day) =
+          omega (arith, d.day_in, d.month_in, date.day_in) in
           let same_year : d.year ≡ date.year = is ∙ ap pos same.0 ∙ sym is_y in
           let same_month : d.month ≡ date.month = same.1 ∙ sym is_m in
           let number : epoch_day d ≡ epoch_day date = epoch_day_same d date same_year same_month same.2 in
@@ -81,7 +87,10 @@ no_date_on s low y m date within is_y is_m gap apart d year is found above below
     ]
 
 -- the date that ends the search in a month
-pub first_in_month : (s : Schedule) (y m start from : ℕ) (date : Date) → m ≤ 12 → start ≤ from → date.year ≡ pos y → date.month ≡ m → holds s.month m ≡ true → HasNoDate s (place y m start) (place y m from) → IsNextIn s.day from (Some date.day) → holds s.weekday ((weekday_of date + 1) % 7) ≡ true → IsFirstDate s (place y m start) (place y (m + 1) 0) date
+pub first_in_month : (s : Schedule) (y m start from : ℕ) (date : Date) → m ≤ 12 → start ≤ from → date.year ≡ pos y
+    → date.month ≡ m → holds s.month m ≡ true → HasNoDate s (place y m start) (place y m from)
+    → IsNextIn s.day from (Some date.day) → holds s.weekday ((weekday_of date + 1) % 7) ≡ true
+    → IsFirstDate s (place y m start) (place y (m + 1) 0) date
 first_in_month s y m start from date within later is_y is_m in_month gap next in_week =
     let last = days_in_month_bounds date.year date.month in
     record {
@@ -90,11 +99,13 @@ first_in_month s y m start from date within later is_y is_m in_month gap next in
       found = record { month = rw is_m in_month; day = next.1; weekday = in_week };
       from = omega (arith, next.0);
       below = omega (arith, date.day_in);
-      least = rw is_m (no_date_before s (place y m start) y m from date.day within (omega (arith, date.day_in)) gap next);
+      least = rw is_m (no_date_before s (place y m start) y m from date.day within (omega (arith, date.day_in))
+          gap next);
     }
 
 -- the first date behind two gaps
-pub first_behind : (s : Schedule) (a b c high top : ℕ) (d : Date) → HasNoDate s a b → HasNoDate s b c → a ≤ c → high ≤ top → IsFirstDate s c high d → IsFirstDate s a top d
+pub first_behind : (s : Schedule) (a b c high top : ℕ) (d : Date) → HasNoDate s a b → HasNoDate s b c → a ≤ c
+    → high ≤ top → IsFirstDate s c high d → IsFirstDate s a top d
 first_behind s a b c high top d gap next low up first =
     record {
       year = first.year;
@@ -122,21 +133,24 @@ same_le a b x y same le = grind (arith, ints)
 same_lt : (a b x y : ℤ) → int_cmp a b ≡ int_cmp x y → a <ℤ b → x <ℤ y
 same_lt a b x y same lt = grind (arith, ints)
 
-pub epoch_day-le : (a b : Date) (x y : ℕ) → a.year ≡ pos x → b.year ≡ pos y → place x a.month a.day ≤ place y b.month b.day → epoch_day a ≤ℤ epoch_day b
+pub epoch_day-le : (a b : Date) (x y : ℕ) → a.year ≡ pos x → b.year ≡ pos y
+    → place x a.month a.day ≤ place y b.month b.day → epoch_day a ≤ℤ epoch_day b
 epoch_day-le a b x y is_x is_y le =
     let first = key a x is_x in
     let second = key b y is_y in
     let keys : date_key a ≤ℤ date_key b = omega (arith, signed_arith, first, second) in
     same_le _ _ _ _ (date_key-epoch_day a b).0 keys
 
-pub place-le : (a b : Date) (x y : ℕ) → a.year ≡ pos x → b.year ≡ pos y → epoch_day a ≤ℤ epoch_day b → place x a.month a.day ≤ place y b.month b.day
+pub place-le : (a b : Date) (x y : ℕ) → a.year ≡ pos x → b.year ≡ pos y → epoch_day a ≤ℤ epoch_day b
+    → place x a.month a.day ≤ place y b.month b.day
 place-le a b x y is_x is_y le =
     let first = key a x is_x in
     let second = key b y is_y in
     let keys : date_key a ≤ℤ date_key b = same_le _ _ _ _ (sym (date_key-epoch_day a b).0) le in
     omega (arith, signed_arith, first, second, keys)
 
-pub place-lt : (a b : Date) (x y : ℕ) → a.year ≡ pos x → b.year ≡ pos y → epoch_day a <ℤ epoch_day b → place x a.month a.day < place y b.month b.day
+pub place-lt : (a b : Date) (x y : ℕ) → a.year ≡ pos x → b.year ≡ pos y → epoch_day a <ℤ epoch_day b
+    → place x a.month a.day < place y b.month b.day
 place-lt a b x y is_x is_y lt =
     let first = key a x is_x in
     let second = key b y is_y in
@@ -144,13 +158,22 @@ place-lt a b x y is_x is_y lt =
     omega (arith, signed_arith, first, second, keys)
 
 first : Date
-first = record { year = pos 0; month = 1; day = 1; year_in = search rules; month_in = search rules; day_in = search rules }
+first = record {
+  year = pos 0;
+  month = 1;
+  day = 1;
+  year_in = search rules;
+  month_in = search rules;
+  day_in =
+      search rules;
+}
 
 -- 0000-01-01 is this long before 1970-01-01
 epoch_day-first : epoch_day first +ℤ pos 719528 ≡ pos 0
 unfolding first
 epoch_day-first =
-    let count : day_count (pos 0) 1 1 ≡ 3652425 = day_count-early (pos 0) 9999 1 1 refl (omega arith) (omega arith) (omega arith) in
+    let count : day_count (pos 0) 1 1 ≡ 3652425 = day_count-early (pos 0) 9999 1 1 refl (omega arith) (omega arith)
+    (omega arith) in
     omega (arith, signed_arith, count, days_from_civil-day_count (pos 0) 1 1)
 
 year-first : first.year ≡ pos 0
@@ -182,7 +205,9 @@ day_in_range s k h =
     omega (arith, signed_arith, last, h.numbered)
 
 -- the least date, as the least number of a day
-pub day_found : (s : Schedule) (start date : Date) (n high : ℕ) → epoch_day start ≡ pos n -ℤ pos 719528 → IsFirstDate s (place (unsigned_abs start.year) start.month start.day) high date → IsLeastFrom (DayIn s) n (Some (unsigned_abs (epoch_day date +ℤ pos 719528)))
+pub day_found : (s : Schedule) (start date : Date) (n high : ℕ) → epoch_day start ≡ pos n -ℤ pos 719528
+    → IsFirstDate s (place (unsigned_abs start.year) start.month start.day) high date
+    → IsLeastFrom (DayIn s) n (Some (unsigned_abs (epoch_day date +ℤ pos 719528)))
 day_found s start date n high numbered first =
     let begun = year_of start n numbered in
     let ordered = epoch_day-le start date _ first.year begun first.is_year first.from in
@@ -196,7 +221,9 @@ day_found s start date n high numbered first =
           first.least h.date _ year h.found above under,
     )
 
-pub day_none : (s : Schedule) (start : Date) (n : ℕ) → epoch_day start ≡ pos n -ℤ pos 719528 → HasNoDate s (place (unsigned_abs start.year) start.month start.day) (place 10000 0 0) → IsLeastFrom (DayIn s) n None
+pub day_none : (s : Schedule) (start : Date) (n : ℕ) → epoch_day start ≡ pos n -ℤ pos 719528
+    → HasNoDate s (place (unsigned_abs start.year) start.month start.day) (place 10000 0 0)
+    → IsLeastFrom (DayIn s) n None
 day_none s start n numbered none k from h =
     let begun = year_of start n numbered in
     let year = year_of h.date k h.numbered in

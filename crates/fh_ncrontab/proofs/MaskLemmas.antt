@@ -75,7 +75,8 @@ none_of_zero p (suc n) k empty lt =
       | inr ge ↦
           let same : k ≡ n = omega arith in
           ap p same ∙ elim (cases_Bool (p n)) [
-            | inl held ↦ absurd (let bit : 2 ^ n ≡ 0 = ap (λ b. cond b (2 ^ n) 0) (sym held) ∙ last in let positive = pow_pos n in omega arith)
+            | inl held ↦ absurd (let bit : 2 ^ n ≡ 0 = ap (λ b. cond b (2 ^ n) 0) (sym held) ∙ last in let positive =
+                pow_pos n in omega arith)
             | inr out ↦ out
           ]
     ]
@@ -93,7 +94,8 @@ below_top lo hi set fits is =
           let split : (hi + 1) + (63 - hi) ≡ 64 = omega arith in
           let whole : set % 2 ^ 64 ≡ set = omega arith in
           sym (mask_of-holds set (hi + 1))
-          ∙ sym (mask_of-none_above (holds set) (hi + 1) (63 - hi) (λ k above. holds-outside lo hi set is k (λ within. absurd (omega (arith, within.1)))))
+          ∙ sym (mask_of-none_above (holds set) (hi + 1) (63 - hi)
+          (λ k above. holds-outside lo hi set is k (λ within. absurd (omega (arith, within.1)))))
           ∙ ap (mask_of (holds set)) split ∙ mask_of-holds set 64 ∙ whole
       | inr ge ↦ let more : 2 ^ 64 < 2 ^ (hi + 1) = pow_below 64 (hi + 1) (omega arith) in mod-eq_of_lt (omega arith)
     ]
@@ -101,8 +103,11 @@ below_top lo hi set fits is =
 pub is_mask-from : (lo hi set : ℕ) → set < 2 ^ 64 → IsSetWithin lo hi set → is_mask lo hi set ≡ true
 unfolding is_mask
 is_mask-from lo hi set fits is =
-    let low : set % 2 ^ lo ≡ 0 = sym (mask_of-holds set lo) ∙ mask_of-none_below (holds set) lo (λ k lt. holds-outside lo hi set is k (λ within. absurd (omega (arith, within.0)))) in
-    let top : set < 2 ^ (hi + 1) = (let same = below_top lo hi set fits is in let positive = pow_pos (hi + 1) in omega arith) in
+    let low : set % 2 ^ lo ≡ 0 = sym (mask_of-holds set lo)
+    ∙ mask_of-none_below (holds set) lo (λ k lt. holds-outside lo hi set is k
+    (λ within. absurd (omega (arith, within.0)))) in
+    let top : set < 2 ^ (hi + 1) = (let same = below_top lo hi set fits is in let positive = pow_pos (hi + 1) in
+    omega arith) in
     let some = is.some in
     grind (arith, nat_tests)
 
@@ -127,11 +132,13 @@ is_mask-within lo hi set is =
       some = filled set halves.0;
       within = λ n held. (
         elim (cases_lt n lo) [
-          | inl lt ↦ absurd (let no : holds set n ≡ false = none_of_zero (holds set) lo n (mask_of-holds set lo ∙ low) lt in cc)
+          | inl lt ↦ absurd (let no : holds set n ≡ false = none_of_zero (holds set) lo n (mask_of-holds set lo ∙ low)
+              lt in cc)
           | inr ge ↦ ge
         ],
         elim (cases_lt hi n) [
-          | inl above ↦ absurd (let no : bit_at set n ≡ 0 = bit_at_above set (hi + 1) n top (omega arith) in let never : nat_eq 0 1 ≡ true = ap (λ b. nat_eq b 1) (sym no) ∙ held in cc)
+          | inl above ↦ absurd (let no : bit_at set n ≡ 0 = bit_at_above set (hi + 1) n top (omega arith) in
+              let never : nat_eq 0 1 ≡ true = ap (λ b. nat_eq b 1) (sym no) ∙ held in cc)
           | inr le ↦ le
         ],
       );
@@ -143,11 +150,13 @@ all_numbers-within lo hi order = record {
   some = (let more : 2 ^ lo < 2 ^ (hi + 1) = pow_below lo (hi + 1) (omega arith) in λ none. absurd (omega arith));
   within = λ n held. (
     elim (cases_lt n lo) [
-      | inl lt ↦ absurd (let no = bit_at_mask_below lo (hi + 1) n lt in let never : nat_eq 0 1 ≡ true = ap (λ b. nat_eq b 1) (sym no) ∙ held in cc)
+      | inl lt ↦ absurd (let no = bit_at_mask_below lo (hi + 1) n lt in let never : nat_eq 0 1 ≡ true =
+          ap (λ b. nat_eq b 1) (sym no) ∙ held in cc)
       | inr ge ↦ ge
     ],
     elim (cases_lt hi n) [
-      | inl above ↦ absurd (let no = bit_at_mask_above lo (hi + 1) n (omega arith) in let never : nat_eq 0 1 ≡ true = ap (λ b. nat_eq b 1) (sym no) ∙ held in cc)
+      | inl above ↦ absurd (let no = bit_at_mask_above lo (hi + 1) n (omega arith) in let never : nat_eq 0 1 ≡ true =
+          ap (λ b. nat_eq b 1) (sym no) ∙ held in cc)
       | inr le ↦ le
     ],
   );
@@ -167,7 +176,8 @@ unfolding is_mask
 is_mask-yes lo hi mask some low high =
     let top : mask < 2 ^ (hi + 1) = elim (cases_lt mask (2 ^ (hi + 1))) [
       | inl lt ↦ lt
-      | inr ge ↦ absurd (let two = le-div 2 mask (2 ^ hi) (pow_pos hi) (let twice = doubled hi in omega arith) in omega arith)
+      | inr ge ↦ absurd (let two = le-div 2 mask (2 ^ hi) (pow_pos hi) (let twice = doubled hi in omega arith) in
+          omega arith)
     ] in
     grind (arith, nat_tests)
 
@@ -193,6 +203,7 @@ not_high lo hi mask more = elim (cases_Bool (is_mask lo hi mask)) [
   | inr not_one ↦ not_one
 ]
 
-pub passes : (lo hi mask : ℕ) → lo < 64 → mask ≢ 0 → mask % (1 * 2 ^ lo % 2 ^ 64) ≡ 0 → mask / 2 ^ hi ≤ 1 → is_mask lo hi mask ≡ true
+pub passes : (lo hi mask : ℕ) → lo < 64 → mask ≢ 0 → mask % (1 * 2 ^ lo % 2 ^ 64) ≡ 0 → mask / 2 ^ hi ≤ 1
+    → is_mask lo hi mask ≡ true
 passes lo hi mask lt some low high =
     is_mask-yes lo hi mask some (ap (λ bit. mask % bit) (sym (one_bit lo lt)) ∙ low) high

@@ -31,10 +31,12 @@ some_below-yes p zero k lt passes = absurd (omega arith)
 some_below-yes p (suc n) k lt passes =
     elim (cases_lt k n) [
       | inl below ↦ right_of (p n) (some_below n p) (some_below-yes p n k below passes)
-      | inr above ↦ let same : k ≡ n = omega arith in left_of (p n) (some_below n p) (subst (λ (j : ℕ). p j ≡ true) same passes)
+      | inr above ↦ let same : k ≡ n = omega arith in left_of (p n) (some_below n p)
+          (subst (λ (j : ℕ). p j ≡ true) same passes)
     ]
 
-found_step : (p : ℕ → Bool) (n : ℕ) (b : Bool) → p n ≡ b → (some_below n p ≡ true → (k : ℕ) × (k < n) × (p k ≡ true)) → (b || some_below n p) ≡ true → (k : ℕ) × (k < suc n) × (p k ≡ true)
+found_step : (p : ℕ → Bool) (n : ℕ) (b : Bool) → p n ≡ b → (some_below n p ≡ true → (k : ℕ) × (k < n) × (p k ≡ true))
+    → (b || some_below n p) ≡ true → (k : ℕ) × (k < suc n) × (p k ≡ true)
 found_step p n true is more h = (n, omega arith, is)
 found_step p n false is more h =
     let found = more h in
@@ -68,7 +70,8 @@ first_of_one p from n (Some r) (Some q) h k =
       ]
     ]
 
-first_step : (p : ℕ → Bool) (from n : ℕ) (b : Bool) (r : Option ℕ) → p from ≡ b → IsFirstOf p (from + 1) n r → IsFirstOf p from (suc n) (cond b (Some from) r)
+first_step : (p : ℕ → Bool) (from n : ℕ) (b : Bool) (r : Option ℕ) → p from ≡ b → IsFirstOf p (from + 1) n r
+    → IsFirstOf p from (suc n) (cond b (Some from) r)
 first_step p from n true r is h = (omega arith, omega arith, is, λ k low high. absurd (omega arith))
 first_step p from n false None is h = λ k low high passes.
     elim (cases_lt from k) [
@@ -89,7 +92,8 @@ first_step p from n false (Some r) is h = (
 first_number-is : (p : ℕ → Bool) (from n : ℕ) → IsFirstOf p from n (first_number p from n)
 unfolding first_number
 first_number-is p from zero = λ k low high passes. absurd (omega arith)
-first_number-is p from (suc n) = first_step p from n (p from) (first_number p (from + 1) n) refl (first_number-is p (from + 1) n)
+first_number-is p from (suc n) = first_step p from n (p from) (first_number p (from + 1) n) refl
+    (first_number-is p (from + 1) n)
 
 le_yes : (a b : ℕ) → a ≤ b → nat_le a b ≡ true
 le_yes a b h = grind (arith, nat_tests)
@@ -122,13 +126,17 @@ is_day-yes s n h =
     let small : y < 10000 = omega (arith, signed_arith, d.year_in, year) in
     let days = days_in_month_bounds d.year d.month in
     let civil : is_civil y d.month d.day ≡ true =
-    both _ _ (both _ _ (le_yes _ _ d.month_in.0) (le_yes _ _ d.month_in.1)) (both _ _ (le_yes _ _ d.day_in.0) (le_yes _ _ (subst (λ (z : ℤ). d.day ≤ days_in_month z d.month) year d.day_in.1))) in
+    both _ _ (both _ _ (le_yes _ _ d.month_in.0) (le_yes _ _ d.month_in.1))
+    (both _ _ (le_yes _ _ d.day_in.0) (le_yes _ _
+    (subst (λ (z : ℤ). d.day ≤ days_in_month z d.month) year d.day_in.1))) in
     let numbered : int_eq (days_from_civil (pos y) d.month d.day) (day_at n) ≡ true =
     same_yes _ _ (subst (λ (z : ℤ). days_from_civil z d.month d.day ≡ day_at n) year h.numbered) in
     let found : has_date s (day_at n) d.month d.day ≡ true =
-    both _ _ h.found.month (both _ _ h.found.day (subst (λ (z : ℤ). holds s.weekday ((weekday_number z + 1) % 7) ≡ true) h.numbered h.found.weekday)) in
+    both _ _ h.found.month (both _ _ h.found.day
+    (subst (λ (z : ℤ). holds s.weekday ((weekday_number z + 1) % 7) ≡ true) h.numbered h.found.weekday)) in
     let dated : is_date s (day_at n) y d.month d.day ≡ true = both _ _ civil (both _ _ numbered found) in
-    some_below-yes _ 10000 y small (some_below-yes _ 13 d.month (omega (arith, d.month_in)) (some_below-yes _ 32 d.day (omega (arith, d.day_in)) dated))
+    some_below-yes _ 10000 y small (some_below-yes _ 13 d.month (omega (arith, d.month_in))
+    (some_below-yes _ 32 d.day (omega (arith, d.day_in)) dated))
 
 date_told : (s : Schedule) (n y m d : ℕ) → y < 10000 → is_date s (day_at n) y m d ≡ true → DayIn s n
 date_told s n y m d small h =
@@ -151,7 +159,12 @@ date_told s n y m d small h =
     record {
       date = date;
       numbered = numbered;
-      found = record { month = sets.0; day = in_sets.0; weekday = subst (λ (z : ℤ). holds s.weekday ((weekday_number z + 1) % 7) ≡ true) (sym numbered) in_sets.1 };
+      found = record {
+        month = sets.0;
+        day = in_sets.0;
+        weekday =
+            subst (λ (z : ℤ). holds s.weekday ((weekday_number z + 1) % 7) ≡ true) (sym numbered) in_sets.1;
+      };
     }
 
 pub is_day-told : (s : Schedule) (n : ℕ) → is_day s (day_at n) ≡ true → DayIn s n
@@ -185,7 +198,8 @@ is_in-told s n h =
     (is_day-told s (n / 86400) halves.0, (time.0, (minute.0, minute.1)))
 
 -- the search over seconds, in numbers from the year 0 on
-first_branch : (at : ℕ → ℤ) (b : Bool) (from : ℕ) (later : Option ℕ) → cond b (Some (at from)) (option_map at later) ≡ option_map at (cond b (Some from) later)
+first_branch : (at : ℕ → ℤ) (b : Bool) (from : ℕ) (later : Option ℕ)
+    → cond b (Some (at from)) (option_map at later) ≡ option_map at (cond b (Some from) later)
 first_branch at true from later = refl
 first_branch at false from later = refl
 
@@ -207,10 +221,12 @@ pos_on n = omega (arith, signed_arith)
 abbrev pub end : ℕ
 end = 315569520000
 
-told_first : (s : Schedule) (n : ℕ) (r : Option ℕ) → n ≤ end → IsLeastFrom (IsIn s) n r → IfSome r (λ k. k ≤ 315569519999)
+told_first : (s : Schedule) (n : ℕ) (r : Option ℕ) → n ≤ end → IsLeastFrom (IsIn s) n r
+    → IfSome r (λ k. k ≤ 315569519999)
     → IsFirstOf (λ k. is_in s (second_at k)) n (end - n) r
 told_first s n None small h bound = λ k low high passes. h k low (is_in-told s k passes)
-told_first s n (Some r) small h bound = (h.0, omega (arith, bound), is_in-yes s r h.1, λ k low high passes. h.2 k low high (is_in-told s k passes))
+told_first s n (Some r) small h bound =
+    (h.0, omega (arith, bound), is_in-yes s r h.1, λ k low high passes. h.2 k low high (is_in-told s k passes))
 
 steps : (n : ℕ) → n ≤ end → unsigned_abs (pos (last_second + 1) -ℤ second_at n) ≡ end - n
 steps n small =
@@ -218,11 +234,13 @@ steps n small =
     ap unsigned_abs same
 
 -- the least second from n on is the one that the function gives
-pub first_from-is : (s : Schedule) (n : ℕ) (r : Option ℕ) → n ≤ end → IsLeastFrom (IsIn s) n r → IfSome r (λ k. k ≤ 315569519999)
+pub first_from-is : (s : Schedule) (n : ℕ) (r : Option ℕ) → n ≤ end → IsLeastFrom (IsIn s) n r
+    → IfSome r (λ k. k ≤ 315569519999)
     → option_map second_at r ≡ first_from s (second_at n)
 unfolding first_from
 first_from-is s n r small h bound =
-    ap (option_map second_at) (first_of_one _ _ _ _ _ (told_first s n r small h bound) (first_number-is (λ k. is_in s (second_at k)) n (end - n)))
+    ap (option_map second_at) (first_of_one _ _ _ _ _ (told_first s n r small h bound)
+    (first_number-is (λ k. is_in s (second_at k)) n (end - n)))
     ∙ sym (first_of-along second_at second_on (is_in s) n (end - n))
     ∙ ap (first_of (is_in s) (second_at n)) (sym (steps n small))
 
@@ -230,7 +248,8 @@ first_from-is s n r small h bound =
 pub back : (x : ℤ) → neg_ℤ (pos 62167219200) ≤ℤ x → second_at (unsigned_abs (x +ℤ pos 62167219200)) ≡ x
 back x low = sym (counted x 0 62167219200 (omega (arith, signed_arith, low)))
 
-pub within_end : (x : ℤ) → neg_ℤ (pos 62167219200) ≤ℤ x → x ≤ℤ pos 253402300800 → unsigned_abs (x +ℤ pos 62167219200) ≤ end
+pub within_end : (x : ℤ) → neg_ℤ (pos 62167219200) ≤ℤ x → x ≤ℤ pos 253402300800
+    → unsigned_abs (x +ℤ pos 62167219200) ≤ end
 within_end x low high =
     let same = back x low in
     omega (arith, signed_arith, same, low, high)
@@ -245,7 +264,8 @@ later_steps x = unsigned_abs (pos (last_second + 1) -ℤ pos (x + 1))
 
 next-number : (s : Schedule) (x : ℕ) → next s x ≡ first_number (λ k. is_in s (pos k)) (x + 1) (later_steps x)
 unfolding next first_from later_steps
-next-number s x = ap (option_map unsigned_abs) (first_of-along pos pos_on (is_in s) (x + 1) (later_steps x)) ∙ back_map _
+next-number s x = ap (option_map unsigned_abs) (first_of-along pos pos_on (is_in s) (x + 1) (later_steps x))
+    ∙ back_map _
 
 pub next-is : (s : Schedule) (x : ℕ) → option_map pos (next s x) ≡ first_from s (pos (x + 1))
 unfolding first_from later_steps
@@ -255,7 +275,8 @@ not_true : (b : Bool) → ¬ (b ≡ true) → b ≡ false
 not_true true h = absurd (h refl)
 not_true false h = refl
 
-told_next : (s : Schedule) (x : ℕ) (r : Option ℕ) → x ≤ last_second → IsFirstOf (λ k. is_in s (pos k)) (x + 1) (last_second - x) r → IsNext s x r
+told_next : (s : Schedule) (x : ℕ) (r : Option ℕ) → x ≤ last_second
+    → IsFirstOf (λ k. is_in s (pos k)) (x + 1) (last_second - x) r → IsNext s x r
 told_next s x None small h = λ k low high. not_true (is_in s (pos k)) (h k (omega arith) (omega arith))
 told_next s x (Some n) small h = (
   omega (arith, h.0),
@@ -282,7 +303,8 @@ next-least s x small =
 pub second_back : (k : ℕ) → k ≤ 315569519999 → to_z w64 (of_z w64 (second_at k)) ≡ second_at k
 second_back k small = back_small w64 (second_at k) (omega (arith, signed_arith, one_part (second_at k)))
 
-pub later_back : (x : ℤ) → pos 0 ≤ℤ x → x ≤ℤ pos 253402300799 → to_z w64 (of_z w64 (x +ℤ pos 1)) ≡ pos (unsigned_abs x + 1)
+pub later_back : (x : ℤ) → pos 0 ≤ℤ x → x ≤ℤ pos 253402300799
+    → to_z w64 (of_z w64 (x +ℤ pos 1)) ≡ pos (unsigned_abs x + 1)
 later_back (pos n) low high = back_small w64 (pos (n + 1)) (omega (arith, signed_arith, high))
 later_back (negsuc n) low high = absurd (omega (arith, signed_arith, low))
 

@@ -12,7 +12,8 @@ use Rattle.fh_ncrontab.proofs.SetLemmas.{holds-zero}
 use native.Mathlib.Nat.{zero-mod}
 
 -- one more number is tested, and is one of them
-pub step_yes : (m h : Bool) (k n : ℕ) → (k ≡ n → h ≡ true) → ((m || (h && nat_lt k n)) || nat_eq k n) ≡ (m || (h && nat_lt k (n + 1)))
+pub step_yes : (m h : Bool) (k n : ℕ) → (k ≡ n → h ≡ true)
+    → ((m || (h && nat_lt k n)) || nat_eq k n) ≡ (m || (h && nat_lt k (n + 1)))
 step_yes m h k n same = grind (arith, nat_tests)
 
 -- or is none of them
@@ -31,7 +32,8 @@ uncut_told true y is = absurd cc
 uncut_told false y is = refl
 
 -- the first piece, where the byte stands in the text
-pub pieces-cut : (c : ℕ) (text before after : List ℕ) → Some (before, after) ≡ cut_at c text → (pieces c text ≡ before ∷ pieces c after) × (length after < length text)
+pub pieces-cut : (c : ℕ) (text before after : List ℕ) → Some (before, after) ≡ cut_at c text
+    → (pieces c text ≡ before ∷ pieces c after) × (length after < length text)
 pieces-cut c text before after is =
     let told = cut_told _ _ _ is in
     let test : nat_lt (position_or_len (λ b. nat_eq b c) text) (length text) ≡ true = told.0 in
@@ -50,11 +52,13 @@ pieces-whole c text is =
     slice_split_none (λ b. nat_eq b c) text (λ k d lt. fails_before_first (λ b. nat_eq b c) text k d (omega arith))
 
 -- a part that is read has no fault, and its numbers
-pub first_fault-ok : (lo hi : ℕ) (p : Part) (part : List ℕ) (more : List (List ℕ)) → Ok p ≡ part_of lo hi part → first_fault lo hi (part ∷ more) ≡ first_fault lo hi more
+pub first_fault-ok : (lo hi : ℕ) (p : Part) (part : List ℕ) (more : List (List ℕ)) → Ok p ≡ part_of lo hi part
+    → first_fault lo hi (part ∷ more) ≡ first_fault lo hi more
 unfolding first_fault
 first_fault-ok lo hi p part more is = ap (λ r. fault_or r (first_fault lo hi more)) (sym is)
 
-pub first_fault-err : (lo hi : ℕ) (e : FieldFault) (part : List ℕ) (more : List (List ℕ)) → Err e ≡ part_of lo hi part → first_fault lo hi (part ∷ more) ≡ Some e
+pub first_fault-err : (lo hi : ℕ) (e : FieldFault) (part : List ℕ) (more : List (List ℕ)) → Err e ≡ part_of lo hi part
+    → first_fault lo hi (part ∷ more) ≡ Some e
 unfolding first_fault
 first_fault-err lo hi e part more is = ap (λ r. fault_or r (first_fault lo hi more)) (sym is)
 
@@ -75,7 +79,9 @@ or_cases true b h = inl refl
 or_cases false b h = inr h
 
 -- the numbers of the mask and of what is left, behind one more part
-pub some_part_has-step : (lo hi : ℕ) (p : Part) (part : List ℕ) (more left : List (List ℕ)) (old new n : ℕ) → Ok p ≡ part_of lo hi part → left ≡ part ∷ more → holds new n ≡ (holds old n || part_has p n) → (holds old n || some_part_has lo hi left n) ≡ (holds new n || some_part_has lo hi more n)
+pub some_part_has-step : (lo hi : ℕ) (p : Part) (part : List ℕ) (more left : List (List ℕ)) (old new n : ℕ)
+    → Ok p ≡ part_of lo hi part → left ≡ part ∷ more → holds new n ≡ (holds old n || part_has p n)
+    → (holds old n || some_part_has lo hi left n) ≡ (holds new n || some_part_has lo hi more n)
 unfolding some_part_has
 some_part_has-step lo hi p part more left old new n is cut added =
     ap (λ ps. holds old n || some_part_has lo hi ps n) cut
@@ -90,7 +96,9 @@ some_part_has-none lo hi mask n = or_false (holds mask n)
 pub part_has-within : (p : Part) (n : ℕ) → part_has p n ≡ true → (p.first ≤ n) × (n ≤ p.last)
 part_has-within p n h = grind (arith, nat_tests)
 
-pub within-step : (lo hi : ℕ) (p : Part) (old new : ℕ) → lo ≤ p.first → p.last ≤ hi → ((n : ℕ) → holds new n ≡ (holds old n || part_has p n)) → ((n : ℕ) → holds old n ≡ true → (lo ≤ n) × (n ≤ hi)) → (n : ℕ) → holds new n ≡ true → (lo ≤ n) × (n ≤ hi)
+pub within-step : (lo hi : ℕ) (p : Part) (old new : ℕ) → lo ≤ p.first → p.last ≤ hi
+    → ((n : ℕ) → holds new n ≡ (holds old n || part_has p n)) → ((n : ℕ) → holds old n ≡ true → (lo ≤ n) × (n ≤ hi))
+    → (n : ℕ) → holds new n ≡ true → (lo ≤ n) × (n ≤ hi)
 within-step lo hi p old new low high added before n held =
     elim (or_cases (holds old n) (part_has p n) (sym (added n) ∙ held)) [
       | inl was ↦ before n was
@@ -99,18 +107,21 @@ within-step lo hi p old new low high added before n held =
 
 part_has-first : (p : Part) → p.first ≤ p.last → part_has p p.first ≡ true
 part_has-first p order =
-    let none : (p.first - p.first) % p.step ≡ 0 = let e : p.first - p.first ≡ 0 = omega arith in ap (λ n. n % p.step) e ∙ zero-mod p.step in
+    let none : (p.first - p.first) % p.step ≡ 0 = let e : p.first - p.first ≡ 0 = omega arith in ap (λ n. n % p.step) e
+    ∙ zero-mod p.step in
     part_has-yes p p.first (omega arith) order none
 
 or_true : (a b : Bool) → b ≡ true → (a || b) ≡ true
 or_true true b h = refl
 or_true false b h = h
 
-pub not_empty : (p : Part) (old new : ℕ) → p.first ≤ p.last → ((n : ℕ) → holds new n ≡ (holds old n || part_has p n)) → new ≢ 0
+pub not_empty : (p : Part) (old new : ℕ) → p.first ≤ p.last → ((n : ℕ) → holds new n ≡ (holds old n || part_has p n))
+    → new ≢ 0
 not_empty p old new order added zero_is =
     let held : holds new p.first ≡ true = added p.first ∙ or_true (holds old p.first) _ (part_has-first p order) in
     let none : holds new p.first ≡ false = ap (λ mask. holds mask p.first) zero_is ∙ holds-zero p.first in
     cc
 
-pub start_of : (lo hi : ℕ) (ps : List (List ℕ)) (n : ℕ) → some_part_has lo hi ps n ≡ (holds 0 n || some_part_has lo hi ps n)
+pub start_of : (lo hi : ℕ) (ps : List (List ℕ)) (n : ℕ)
+    → some_part_has lo hi ps n ≡ (holds 0 n || some_part_has lo hi ps n)
 start_of lo hi ps n = ap (λ b. b || some_part_has lo hi ps n) (sym (holds-zero n))

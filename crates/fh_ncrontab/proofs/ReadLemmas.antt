@@ -25,16 +25,21 @@ unfolding schedule_of
 by_count text n e five six =
     let other : is_count (length (words text)) ≡ false = ap is_count (sym e) ∙ other_count n five six in
     ap (λ k. Err (FieldCount k)) e
-    ∙ sym (ap (λ b. schedule_or (cond b (field_fault text) (Some (FieldCount (length (words text))))) (sets_of text)) other)
+    ∙ sym (ap (λ b. schedule_or (cond b (field_fault text) (Some (FieldCount (length (words text))))) (sets_of text))
+    other)
 
-counted : (text : List ℕ) → is_count (length (words text)) ≡ true → schedule_of text ≡ schedule_or (field_fault text) (sets_of text)
+counted : (text : List ℕ) → is_count (length (words text)) ≡ true
+    → schedule_of text ≡ schedule_or (field_fault text) (sets_of text)
 unfolding schedule_of
-counted text count = ap (λ b. schedule_or (cond b (field_fault text) (Some (FieldCount (length (words text))))) (sets_of text)) count
+counted text count = ap (λ b. schedule_or (cond b (field_fault text) (Some (FieldCount (length (words text)))))
+    (sets_of text)) count
 
-pub by_fault : (text : List ℕ) (e : CronFault) → is_count (length (words text)) ≡ true → field_fault text ≡ Some e → Err e ≡ schedule_of text
+pub by_fault : (text : List ℕ) (e : CronFault) → is_count (length (words text)) ≡ true → field_fault text ≡ Some e
+    → Err e ≡ schedule_of text
 by_fault text e count fault = sym (counted text count ∙ ap (λ f. schedule_or f (sets_of text)) fault)
 
-pub by_seconds : (text : List ℕ) (s : Schedule) (runs : Bool) → is_count (length (words text)) ≡ true → field_fault text ≡ None
+pub by_seconds : (text : List ℕ) (s : Schedule) (runs : Bool) → is_count (length (words text)) ≡ true
+    → field_fault text ≡ None
     → s ≡ sets_of text → is_some (first_from s (pos 0)) ≡ runs → cond runs (Ok s) (Err NeverRuns) ≡ schedule_of text
 by_seconds text s runs count faultless sets is =
     sym (counted text count ∙ ap (λ f. schedule_or f (sets_of text)) faultless ∙ ap running (sym sets)

@@ -39,13 +39,21 @@ count-back y m d =
     ap (λ n. days_of_years n + (day_of_year (pos (y + 400)) m d - 1)) shift
     ∙ ap (λ n. days_of_years ((y + 10000) + 400) + ((n + d) - 1)) (months-back y (m - 1))
     ∙ ap (λ n. n + (day_of_year (pos y) m d - 1)) (years-back (y + 10000))
-    ∙ (let swap : (days_of_years (y + 10000) + 146097) + (day_of_year (pos y) m d - 1) ≡ (days_of_years (y + 10000) + (day_of_year (pos y) m d - 1)) + 146097 = omega arith in swap)
+    ∙ (let swap : (days_of_years (y + 10000) + 146097) + (day_of_year (pos y) m d - 1)
+    ≡ (days_of_years (y + 10000) + (day_of_year (pos y) m d - 1)) + 146097 = omega arith in swap)
 
 days-back : (y m d : ℕ) → days_from_civil (pos (y + 400)) m d ≡ days_from_civil (pos y) m d +ℤ pos 146097
 days-back y m d =
-    omega (arith, signed_arith, count-back y m d, days_from_civil-day_count (pos (y + 400)) m d, days_from_civil-day_count (pos y) m d)
+    omega (
+      arith,
+      signed_arith,
+      count-back y m d,
+      days_from_civil-day_count (pos (y + 400)) m d,
+      days_from_civil-day_count (pos y) m d,
+    )
 
-weekday-back : (y m d : ℕ) → weekday_number (days_from_civil (pos (y + 400)) m d) ≡ weekday_number (days_from_civil (pos y) m d)
+weekday-back : (y m d : ℕ) → weekday_number (days_from_civil (pos (y + 400)) m d)
+    ≡ weekday_number (days_from_civil (pos y) m d)
 weekday-back y m d =
     let z = days_from_civil (pos y) m d in
     let small = weekday_number_bound z in
@@ -53,9 +61,11 @@ weekday-back y m d =
     weekday_number-add z (days_from_civil (pos (y + 400)) m d) 146097 (days-back y m d) ∙ round
 
 -- a date of the schedule has another 400 years before
-earlier : (s : Schedule) (d : Date) (y : ℕ) → d.year ≡ pos (y + 400) → DateIn s d → (e : Date) × (e.year ≡ pos y) × DateIn s e
+earlier : (s : Schedule) (d : Date) (y : ℕ) → d.year ≡ pos (y + 400) → DateIn s d
+    → (e : Date) × (e.year ≡ pos y) × DateIn s e
 earlier s d y year found =
-    let month : days_in_month d.year d.month ≡ days_in_month (pos y) d.month = ap (λ z. days_in_month z d.month) year ∙ month-back y d.month in
+    let month : days_in_month d.year d.month ≡ days_in_month (pos y) d.month = ap (λ z. days_in_month z d.month) year
+    ∙ month-back y d.month in
     let e : Date = record {
       year = pos y;
       month = d.month;
@@ -64,8 +74,17 @@ earlier s d y year found =
       month_in = d.month_in;
       day_in = (d.day_in.0, subst (λ (n : ℕ). d.day ≤ n) month d.day_in.1);
     } in
-    let weekday : weekday_of d ≡ weekday_of e = ap (λ z. weekday_number (days_from_civil z d.month d.day)) year ∙ weekday-back y d.month d.day in
-    (e, refl, record { month = found.month; day = found.day; weekday = subst (λ (w : ℕ). holds s.weekday ((w + 1) % 7) ≡ true) weekday found.weekday })
+    let weekday : weekday_of d ≡ weekday_of e = ap (λ z. weekday_number (days_from_civil z d.month d.day)) year
+    ∙ weekday-back y d.month d.day in (
+      e,
+      refl,
+      record {
+        month = found.month;
+        day = found.day;
+        weekday =
+            subst (λ (w : ℕ). holds s.weekday ((w + 1) % 7) ≡ true) weekday found.weekday;
+      },
+    )
 
 -- a date of the first 400 years behind the first year, and then any later one
 none_near : (s : Schedule) (low first : ℕ) → low ≤ place (first + 1) 0 0 → HasNoDate s low (place (first + 401) 0 0)
@@ -74,9 +93,11 @@ none_near s low first start gap d y year later within found =
     let days = days_in_month_bounds d.year d.month in
     gap d y year found (omega (arith, d.day_in, d.month_in)) (omega (arith, d.day_in, d.month_in))
 
-none_later : (s : Schedule) (low first steps : ℕ) → low ≤ place (first + 1) 0 0 → HasNoDate s low (place (first + 401) 0 0)
+none_later : (s : Schedule) (low first steps : ℕ) → low ≤ place (first + 1) 0 0
+    → HasNoDate s low (place (first + 401) 0 0)
     → (d : Date) (y : ℕ) → d.year ≡ pos y → first < y → y < first + 401 + 400 * steps → ¬ DateIn s d
-none_later s low first zero start gap d y year later within found = none_near s low first start gap d y year later (omega arith) found
+none_later s low first zero start gap d y year later within found =
+    none_near s low first start gap d y year later (omega arith) found
 none_later s low first (suc steps) start gap d y year later within found =
     elim (cases_lt y (first + 401)) [
       | inl lt ↦ none_near s low first start gap d y year later lt found
@@ -87,7 +108,8 @@ none_later s low first (suc steps) start gap d y year later within found =
     ]
 
 -- where 400 years have no date, no later one has
-pub no_date_later : (s : Schedule) (low first high : ℕ) → low ≤ place (first + 1) 0 0 → HasNoDate s low (place (first + 401) 0 0) → HasNoDate s low high
+pub no_date_later : (s : Schedule) (low first high : ℕ) → low ≤ place (first + 1) 0 0
+    → HasNoDate s low (place (first + 401) 0 0) → HasNoDate s low high
 no_date_later s low first high start gap d y year found above below =
     elim (cases_lt first y) [
       | inl lt ↦ none_later s low first y start gap d y year lt (omega arith) found

@@ -35,15 +35,27 @@ unfolding holds
 holds-none set n h = ap (λ b. nat_eq b 1) h
 
 -- the least number of a mask that isn't 0
-pub least-trailing_zeros : (set : ℕ) → 0 < set → set < 2 ^ 64 → (trailing_zeros w64 set < 64) × IsNextIn set 0 (Some (trailing_zeros w64 set))
+pub least-trailing_zeros : (set : ℕ) → 0 < set → set < 2 ^ 64
+    → (trailing_zeros w64 set < 64) × IsNextIn set 0 (Some (trailing_zeros w64 set))
 least-trailing_zeros set some fits =
-    let h = bit_at-trailing_zeros w64 set some fits in
-    (h.0, (omega arith, holds-one set _ h.1, λ k low below yes. absurd (let no : holds set k ≡ false = holds-none set k (h.2 k below) in cc)))
+    let h = bit_at-trailing_zeros w64 set some fits in (
+      h.0,
+      (
+        omega arith,
+        holds-one set _ h.1,
+        λ k low below yes. absurd
+            (let no : holds set k ≡ false = holds-none set k (h.2 k below) in cc),
+      ),
+    )
 
 -- and the least one from n on, behind a shift
 pub next-shift : (set n r : ℕ) → IsNextIn (set / 2 ^ n) 0 (Some r) → IsNextIn set n (Some (n + r))
-next-shift set n r (low, is, before) =
-    (omega arith, sym (holds-shift set n r) ∙ is, λ k from below yes. before (k - n) (omega arith) (omega arith) (holds-shift set n (k - n) ∙ (let e : n + (k - n) ≡ k = omega arith in rw e yes)))
+next-shift set n r (low, is, before) = (
+  omega arith,
+  sym (holds-shift set n r) ∙ is,
+  λ k from below yes. before (k - n) (omega arith) (omega arith)
+      (holds-shift set n (k - n) ∙ (let e : n + (k - n) ≡ k = omega arith in rw e yes)),
+)
 
 -- where the shift leaves nothing there is none
 pub none-shift : (set n : ℕ) → set / 2 ^ n ≡ 0 → (k : ℕ) → n ≤ k → ¬ (holds set k ≡ true)
@@ -63,7 +75,8 @@ holds-set set k n within =
     set_test _ _ n k (λ e. rw e (bit_at_set_same w64 set k within)) (bit_at_set_other w64 set k within n)
 
 -- a mask whose bits below 64 are within the field is a set of it
-pub within-bits : (lo hi set n : ℕ) → set ≢ 0 → set < 2 ^ 64 → 64 ≤ n → ((k : ℕ) → k < n → holds set k ≡ true → (lo ≤ k) × (k ≤ hi)) → IsSetWithin lo hi set
+pub within-bits : (lo hi set n : ℕ) → set ≢ 0 → set < 2 ^ 64 → 64 ≤ n
+    → ((k : ℕ) → k < n → holds set k ≡ true → (lo ≤ k) × (k ≤ hi)) → IsSetWithin lo hi set
 within-bits lo hi set n some fits whole below =
     record {
       some = some;

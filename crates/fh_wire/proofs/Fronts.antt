@@ -42,8 +42,11 @@ either_fault Version other many = inl (other (λ is. cc))
 started : (ends : List LineEnd) (line : List ℕ) (e : LineEnd) → Stops is_newline line → Plain line
     → LeadsTo fresh (print_blank ends ++ (line ++ print_end e)) Start 1
 started ends line e begins plain =
-    let one = line_from_fresh line e begins plain in
-    (one.0, fold-append stepped fresh (print_blank ends) _ ∙ ap (λ (s : Scan). fold stepped s (line ++ print_end e)) (blanks_from_fresh ends) ∙ one.1)
+    let one = line_from_fresh line e begins plain in (
+      one.0,
+      fold-append stepped fresh (print_blank ends) _
+          ∙ ap (λ (s : Scan). fold stepped s (line ++ print_end e)) (blanks_from_fresh ends) ∙ one.1,
+    )
 
 digit_plain : (b : ℕ) → is_ascii_digit b ≡ true → (b == 10) ≡ false
 digit_plain b digit = grind (arith, nat_tests)
@@ -53,7 +56,8 @@ minor_plain minor = grind (arith, nat_tests)
 
 version_plain : (minor : ℕ) → Plain (print_version minor)
 version_plain minor =
-    All-from_recursion NoFeed (print_version minor) (refl, (refl, (refl, (refl, (refl, (refl, (refl, (minor_plain minor, tt))))))))
+    All-from_recursion NoFeed (print_version minor)
+    (refl, (refl, (refl, (refl, (refl, (refl, (refl, (minor_plain minor, tt))))))))
 
 reason_plain : (reason : Option (List ℕ)) → Plain (reason_phrase reason) → Plain (print_reason reason)
 reason_plain None plain = plain
@@ -68,7 +72,9 @@ unfolding response_line
 response_started h is =
     started h.blank (response_line h) h.line_end refl
     (All-append NoFeed (print_version h.minor) (32 ∷ (h.digits ++ print_reason h.reason)) (version_plain h.minor)
-    (All-cons NoFeed 32 (h.digits ++ print_reason h.reason) refl (All-append NoFeed h.digits (print_reason h.reason) (All-weaker (Passes is_ascii_digit) NoFeed digit_plain h.digits is.digits.1)
+    (All-cons NoFeed 32 (h.digits ++ print_reason h.reason) refl
+    (All-append NoFeed h.digits (print_reason h.reason)
+    (All-weaker (Passes is_ascii_digit) NoFeed digit_plain h.digits is.digits.1)
     (reason_plain h.reason (All-weaker (Passes is_value_byte) NoFeed value_plain _ is.reason)))))
 
 request_line : (h : RequestHead) → List ℕ
@@ -78,9 +84,13 @@ request_started : (h : RequestHead) → IsRequestHead h
     → LeadsTo fresh (print_blank h.blank ++ (request_line h ++ print_end h.line_end)) Start 1
 unfolding request_line
 request_started h is =
-    started h.blank (request_line h) h.line_end (Stops_token h.method (32 ∷ (h.target ++ 32 ∷ print_version h.minor)) is.method.0 is.method.1)
-    (All-append NoFeed h.method (32 ∷ (h.target ++ 32 ∷ print_version h.minor)) (All-weaker (Passes is_token_byte) NoFeed token_plain h.method is.method.1)
-    (All-cons NoFeed 32 (h.target ++ 32 ∷ print_version h.minor) refl (All-append NoFeed h.target (32 ∷ print_version h.minor) (All-weaker (Passes is_uri_byte) NoFeed uri_plain h.target is.target.1)
+    started h.blank (request_line h) h.line_end
+    (Stops_token h.method (32 ∷ (h.target ++ 32 ∷ print_version h.minor)) is.method.0 is.method.1)
+    (All-append NoFeed h.method (32 ∷ (h.target ++ 32 ∷ print_version h.minor))
+    (All-weaker (Passes is_token_byte) NoFeed token_plain h.method is.method.1)
+    (All-cons NoFeed 32 (h.target ++ 32 ∷ print_version h.minor) refl
+    (All-append NoFeed h.target (32 ∷ print_version h.minor)
+    (All-weaker (Passes is_uri_byte) NoFeed uri_plain h.target is.target.1)
     (All-cons NoFeed 32 (print_version h.minor) refl (version_plain h.minor)))))
 
 -- ---- heads with too many fields
@@ -95,7 +105,8 @@ unfolding response_line
 response_lines bytes x =
     let h = x.3 in
     exceeding bytes x.0 x.1 h.fields 64 x.2
-    (exceeding_lines (print_blank h.blank ++ (response_line h ++ print_end h.line_end)) x.0 h.fields h.last (response_started h x.4.0) x.4.0.fields
+    (exceeding_lines (print_blank h.blank ++ (response_line h ++ print_end h.line_end)) x.0 h.fields h.last
+    (response_started h x.4.0) x.4.0.fields
     (x.4.1 ∙ print_response-append h [] ∙ simp (append_assoc, cons-append, append-nil)))
     x.5
 
@@ -104,7 +115,8 @@ unfolding request_line
 request_lines bytes x =
     let h = x.3 in
     exceeding bytes x.0 x.1 h.fields 64 x.2
-    (exceeding_lines (print_blank h.blank ++ (request_line h ++ print_end h.line_end)) x.0 h.fields h.last (request_started h x.4.0) x.4.0.fields
+    (exceeding_lines (print_blank h.blank ++ (request_line h ++ print_end h.line_end)) x.0 h.fields h.last
+    (request_started h x.4.0) x.4.0.fields
     (x.4.1 ∙ print_request-append h [] ∙ simp (append_assoc, cons-append, append-nil)))
     x.5
 
@@ -151,11 +163,14 @@ narrow_target bytes narrow e =
     let line = method ++ 32 ∷ target in
     let grouped : bytes ≡ print_blank blank ++ line = e.5 ∙ append_assoc (print_blank blank) method (32 ∷ target) in
     let seen : (fold stepped fresh line).wide ≡ false =
-    ap (λ (s : Scan). (fold stepped s line).wide) (sym (blanks_from_fresh blank)) ∙ ap (λ (s : Scan). s.wide) (sym (fold-append stepped fresh (print_blank blank) line))
+    ap (λ (s : Scan). (fold stepped s line).wide) (sym (blanks_from_fresh blank))
+    ∙ ap (λ (s : Scan). s.wide) (sym (fold-append stepped fresh (print_blank blank) line))
     ∙ ap is_wide (sym grouped) ∙ narrow in
-    let plain : Plain line = All-append NoFeed method _ (All-weaker (Passes is_token_byte) NoFeed token_plain method token.1)
+    let plain : Plain line = All-append NoFeed method _
+    (All-weaker (Passes is_token_byte) NoFeed token_plain method token.1)
     (All-cons NoFeed 32 target refl (All-weaker (Passes is_uri_byte) NoFeed uri_plain target e.4)) in
-    All-tail Low 32 target (All-after Low method (32 ∷ target) (narrow_fresh line (Stops_token method _ token.0 token.1) plain seen))
+    All-tail Low 32 target (All-after Low method (32 ∷ target)
+    (narrow_fresh line (Stops_token method _ token.0 token.1) plain seen))
 
 pub request_not_never : (bytes : List ℕ) → is_wide bytes ≡ false → MayBecomeRequest bytes → ¬ (NeverHasRequest bytes)
 request_not_never bytes narrow (inl x) none = none x.0 x.1 [] x.2
@@ -174,7 +189,8 @@ request_not_never bytes narrow (inr e) none =
       record {
         method = e.3;
         target = (omega (arith, length-append e.2 (120 ∷ [])), All-push (Passes is_uri_byte) e.2 120 e.4 refl);
-        target_text = IsUtf8-from_ascii _ (IsAscii-from_all _ (All-push Low e.2 120 (narrow_target bytes narrow e) (omega arith)));
+        target_text = IsUtf8-from_ascii _ (IsAscii-from_all _
+            (All-push Low e.2 120 (narrow_target bytes narrow e) (omega arith)));
         minor = omega arith;
         fields = All-nil IsField;
       },
@@ -213,10 +229,12 @@ request_whole_lines bytes h rest reads =
 
 wide_front : (scan : Scan) (more : List ℕ) → (fold stepped scan more).wide ≡ false → scan.wide ≡ false
 wide_front scan [] is = is
-wide_front scan (b ∷ more) is = (either_false scan.wide (scan.lines == 0 && nat_le 128 b) (wide_front (stepped scan b) more is)).0
+wide_front scan (b ∷ more) is = (either_false scan.wide (scan.lines == 0 && nat_le 128 b)
+    (wide_front (stepped scan b) more is)).0
 
 -- the target of a whole head is ASCII text where its first line is
-pub ascii_target : (bytes : List ℕ) (h : RequestHead) (rest : List ℕ) → ReadsRequest bytes h rest → is_wide bytes ≡ false
+pub ascii_target : (bytes : List ℕ) (h : RequestHead) (rest : List ℕ) → ReadsRequest bytes h rest
+    → is_wide bytes ≡ false
     → IsAscii h.target
 ascii_target bytes h rest reads narrow =
     let front = print_blank h.blank ++ h.method ++ 32 ∷ h.target in
@@ -230,15 +248,25 @@ ascii_target bytes h rest reads narrow =
 
 -- ---- what a scan and a parse say together
 
-pub response_refused : {A : Type 0} (bytes : List ℕ) (room : ℕ) (e : Error) → room ≡ 64 → (e ≢ TooManyHeaders → NeverHasResponse bytes)
+pub response_refused : {A : Type 0} (bytes : List ℕ) (room : ℕ) (e : Error) → room ≡ 64
+    → (e ≢ TooManyHeaders → NeverHasResponse bytes)
     → (◌≡◌ {A = Result A Error} (Err e) (Err TooManyHeaders) → ResponseExceeds room bytes) → IsRefusedResponse bytes
 response_refused {A} bytes room e sized other many =
-    elim (either_fault {A = A} e other many) [ inl none ↦ never none | inr over ↦ long (response_lines bytes (subst (λ n. ResponseExceeds n bytes) sized over)) ]
+    elim (either_fault {A = A} e other many) [
+      | inl none ↦ never none
+      | inr over ↦ long
+          (response_lines bytes (subst (λ n. ResponseExceeds n bytes) sized over))
+    ]
 
-pub request_refused : {A : Type 0} (bytes : List ℕ) (room : ℕ) (e : Error) → room ≡ 64 → (e ≢ TooManyHeaders → NeverHasRequest bytes)
+pub request_refused : {A : Type 0} (bytes : List ℕ) (room : ℕ) (e : Error) → room ≡ 64
+    → (e ≢ TooManyHeaders → NeverHasRequest bytes)
     → (◌≡◌ {A = Result A Error} (Err e) (Err TooManyHeaders) → RequestExceeds room bytes) → IsRefusedRequest bytes
 request_refused {A} bytes room e sized other many =
-    elim (either_fault {A = A} e other many) [ inl none ↦ never_request none | inr over ↦ long_request (request_lines bytes (subst (λ n. RequestExceeds n bytes) sized over)) ]
+    elim (either_fault {A = A} e other many) [
+      | inl none ↦ never_request none
+      | inr over ↦ long_request
+          (request_lines bytes (subst (λ n. RequestExceeds n bytes) sized over))
+    ]
 
 pub request_not_refused : (bytes : List ℕ) → head_lines bytes ≤ 65 → is_wide bytes ≡ false → MayBecomeRequest bytes
     → ¬ (IsRefusedRequest bytes)
@@ -246,10 +274,18 @@ request_not_refused bytes few narrow may (long_request many) = absurd (omega (ar
 request_not_refused bytes few narrow may (wide_request is) = absurd cc
 request_not_refused bytes few narrow may (never_request none) = request_not_never bytes narrow may none
 
-pub few_fields : (bytes : List ℕ) (headers : List HeaderSpan) (count : ℕ) (fields : List Field) → AreFieldsAt bytes headers count fields
+pub few_fields : (bytes : List ℕ) (headers : List HeaderSpan) (count : ℕ) (fields : List Field)
+    → AreFieldsAt bytes headers count fields
     → length headers ≡ 64 → length fields ≤ 64
 few_fields bytes headers count fields are sized =
-    omega (arith, ap length are, length-map (take count headers) (header_bytes bytes), length-map fields name_and_value, length-take count headers, sized)
+    omega (
+      arith,
+      ap length are,
+      length-map (take count headers) (header_bytes bytes),
+      length-map fields name_and_value,
+      length-take count headers,
+      sized,
+    )
 
 -- ---- the first line of a whole head whose target is ASCII text
 
@@ -264,7 +300,8 @@ narrow_low : (scan : Scan) (text : List ℕ) → scan.wide ≡ false → All Low
 narrow_low scan [] is all = is
 narrow_low scan (b ∷ text) is all =
     let lower : b < 128 = All-head Low b text all in
-    narrow_low (stepped scan b) text (off scan.wide (scan.lines == 0) (nat_le 128 b) is (grind (arith, nat_tests))) (All-tail Low b text all)
+    narrow_low (stepped scan b) text (off scan.wide (scan.lines == 0) (nat_le 128 b) is (grind (arith, nat_tests)))
+    (All-tail Low b text all)
 
 narrow_past : (scan : Scan) (more : List ℕ) → scan.wide ≡ false → 1 ≤ scan.lines → (fold stepped scan more).wide ≡ false
 narrow_past scan [] is lines = is
@@ -286,16 +323,28 @@ token_low b token = grind (arith, nat_tests)
 
 version_low : (minor : ℕ) → minor ≤ 1 → All Low (print_version minor)
 version_low minor few =
-    All-from_recursion Low (print_version minor) (omega arith, (omega arith, (omega arith, (omega arith, (omega arith, (omega arith, (omega arith, (omega arith, tt))))))))
+    All-from_recursion Low (print_version minor) (
+      omega arith,
+      (
+        omega arith,
+        (
+          omega arith,
+          (omega arith, (omega arith, (omega arith, (omega arith, (omega arith, tt))))),
+        ),
+      ),
+    )
 
 line_low : (h : RequestHead) → IsRequestHead h → All Low h.target → All Low (request_line h)
 unfolding request_line
 line_low h is target =
-    All-append Low h.method (32 ∷ (h.target ++ 32 ∷ print_version h.minor)) (All-weaker (Passes is_token_byte) Low token_low h.method is.method.1)
-    (All-cons Low 32 (h.target ++ 32 ∷ print_version h.minor) (omega arith) (All-append Low h.target (32 ∷ print_version h.minor) target
+    All-append Low h.method (32 ∷ (h.target ++ 32 ∷ print_version h.minor))
+    (All-weaker (Passes is_token_byte) Low token_low h.method is.method.1)
+    (All-cons Low 32 (h.target ++ 32 ∷ print_version h.minor) (omega arith)
+    (All-append Low h.target (32 ∷ print_version h.minor) target
     (All-cons Low 32 (print_version h.minor) (omega arith) (version_low h.minor is.minor))))
 
-pub request_whole_narrow : (bytes : List ℕ) (h : RequestHead) (rest : List ℕ) → ReadsRequest bytes h rest → IsAscii h.target
+pub request_whole_narrow : (bytes : List ℕ) (h : RequestHead) (rest : List ℕ) → ReadsRequest bytes h rest
+    → IsAscii h.target
     → is_wide bytes ≡ false
 unfolding request_line
 request_whole_narrow bytes h rest reads ascii =
@@ -303,8 +352,10 @@ request_whole_narrow bytes h rest reads ascii =
     let more = (flat_map print_field h.fields ++ print_end h.last) ++ rest in
     let split : bytes ≡ start ++ more = reads.1 ∙ print_request-append h rest ∙ simp (append_assoc, cons-append) in
     let begun = request_started h reads.0 in
-    let narrow = narrow_low fresh start refl (All-append Low (print_blank h.blank) (request_line h ++ print_end h.line_end) (blank_low h.blank)
-    (All-append Low (request_line h) (print_end h.line_end) (line_low h reads.0 (All-from_ascii h.target ascii)) (end_low h.line_end))) in
+    let narrow = narrow_low fresh start refl
+    (All-append Low (print_blank h.blank) (request_line h ++ print_end h.line_end) (blank_low h.blank)
+    (All-append Low (request_line h) (print_end h.line_end) (line_low h reads.0 (All-from_ascii h.target ascii))
+    (end_low h.line_end))) in
     let lines : (fold stepped fresh start).lines ≡ 1 = ap (λ (s : Scan). s.lines) begun.1 in
     ap is_wide split ∙ ap (λ (s : Scan). s.wide) (fold-append stepped fresh start more)
     ∙ narrow_past (fold stepped fresh start) more narrow (omega (arith, lines))

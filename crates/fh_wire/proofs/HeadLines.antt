@@ -44,10 +44,12 @@ value_plain b value = grind (arith, nat_tests)
 pub uri_plain : (b : ℕ) → is_uri_byte b ≡ true → (b == 10) ≡ false
 uri_plain b value = grind (arith, nat_tests)
 
-pub step_inside : (n : ℕ) (w : Bool) (b : ℕ) → NoFeed b → stepped (at Inside n w) b ≡ at Inside n (w || (n == 0 && nat_le 128 b))
+pub step_inside : (n : ℕ) (w : Bool) (b : ℕ) → NoFeed b
+    → stepped (at Inside n w) b ≡ at Inside n (w || (n == 0 && nat_le 128 b))
 step_inside n w b other = rw other refl
 
-step_start : (n : ℕ) (w : Bool) (b : ℕ) → is_newline b ≡ false → stepped (at Start n w) b ≡ at Inside n (w || (n == 0 && nat_le 128 b))
+step_start : (n : ℕ) (w : Bool) (b : ℕ) → is_newline b ≡ false
+    → stepped (at Start n w) b ≡ at Inside n (w || (n == 0 && nat_le 128 b))
 step_start n w b other =
     let apart = either_false (b == 13) (b == 10) other in
     rw (apart.1, apart.0) refl
@@ -55,7 +57,8 @@ step_start n w b other =
 pub step_fresh : (b : ℕ) → is_newline b ≡ false → stepped fresh b ≡ at Inside 0 (nat_le 128 b)
 step_fresh b other = rw other refl
 
-onward : (s t : Scan) (b : ℕ) (text : List ℕ) (p : Place) (m : ℕ) → stepped s b ≡ t → LeadsTo t text p m → LeadsTo s (b ∷ text) p m
+onward : (s t : Scan) (b : ℕ) (text : List ℕ) (p : Place) (m : ℕ) → stepped s b ≡ t → LeadsTo t text p m
+    → LeadsTo s (b ∷ text) p m
 onward s t b text p m is leads = (leads.0, ap (λ (r : Scan). fold stepped r text) is ∙ leads.1)
 
 fed : (n : ℕ) (w : Bool) (text : List ℕ) → Plain text → LeadsTo (at Inside n w) (text ++ 10 ∷ []) Start (n + 1)
@@ -102,7 +105,8 @@ field_plain f is =
 
 field_from_start : (n : ℕ) (w : Bool) (f : Field) → IsField f → LeadsTo (at Start n w) (print_field f) Start (n + 1)
 field_from_start n w f is =
-    line_from_start n w (f.name ++ 58 ∷ f.raw) f.end (Stops_token f.name (58 ∷ f.raw) is.name.0 is.name.1) (field_plain f is)
+    line_from_start n w (f.name ++ 58 ∷ f.raw) f.end (Stops_token f.name (58 ∷ f.raw) is.name.0 is.name.1)
+    (field_plain f is)
 
 pub fields_from_start : (n m : ℕ) (w : Bool) (fields : List Field) → All IsField fields → m ≡ n + length fields
     → LeadsTo (at Start n w) (flat_map print_field fields) Start m
@@ -156,7 +160,8 @@ head_lines-append bytes more =
 
 -- a start line, fields and the empty line
 head_from_fresh : (start : List ℕ) (fields : List Field) (last : LineEnd) → LeadsTo fresh start Start 1
-    → All IsField fields → LeadsTo fresh (start ++ (flat_map print_field fields ++ print_end last)) Ended (1 + length fields)
+    → All IsField fields → LeadsTo fresh (start ++ (flat_map print_field fields ++ print_end last)) Ended
+    (1 + length fields)
 head_from_fresh start fields last begun are =
     let n = 1 + length fields in
     joined fresh start (flat_map print_field fields ++ print_end last) Start Ended 1 n begun
@@ -178,10 +183,12 @@ stays_ended n w (b ∷ more) = stays_ended n (w || (n == 0 && nat_le 128 b)) mor
 
 -- a whole head has the lines of its start line and of its fields, whatever follows
 pub whole_lines : (start rest : List ℕ) (fields : List Field) (last : LineEnd) → LeadsTo fresh start Start 1
-    → All IsField fields → head_lines ((start ++ (flat_map print_field fields ++ print_end last)) ++ rest) ≡ 1 + length fields
+    → All IsField fields → head_lines ((start ++ (flat_map print_field fields ++ print_end last)) ++ rest)
+    ≡ 1 + length fields
 whole_lines start rest fields last begun are =
     let whole = head_from_fresh start fields last begun are in
-    ap (λ (s : Scan). s.lines) (fold-append stepped fresh (start ++ (flat_map print_field fields ++ print_end last)) rest ∙ ap (λ (s : Scan). fold stepped s rest) whole.1)
+    ap (λ (s : Scan). s.lines) (fold-append stepped fresh (start ++ (flat_map print_field fields ++ print_end last))
+    rest ∙ ap (λ (s : Scan). fold stepped s rest) whole.1)
     ∙ stays_ended (1 + length fields) whole.0 rest
 
 place_stays : (n : ℕ) (w : Bool) (more : List ℕ) → (fold stepped (at Ended n w) more).place ≡ Ended
@@ -190,8 +197,10 @@ place_stays n w (b ∷ more) = place_stays n (w || (n == 0 && nat_le 128 b)) mor
 
 -- a whole head has ended, whatever follows
 pub whole_place : (start rest : List ℕ) (fields : List Field) (last : LineEnd) → LeadsTo fresh start Start 1
-    → All IsField fields → (fold stepped fresh ((start ++ (flat_map print_field fields ++ print_end last)) ++ rest)).place ≡ Ended
+    → All IsField fields → (fold stepped fresh
+    ((start ++ (flat_map print_field fields ++ print_end last)) ++ rest)).place ≡ Ended
 whole_place start rest fields last begun are =
     let whole = head_from_fresh start fields last begun are in
-    ap (λ (s : Scan). s.place) (fold-append stepped fresh (start ++ (flat_map print_field fields ++ print_end last)) rest ∙ ap (λ (s : Scan). fold stepped s rest) whole.1)
+    ap (λ (s : Scan). s.place) (fold-append stepped fresh (start ++ (flat_map print_field fields ++ print_end last))
+    rest ∙ ap (λ (s : Scan). fold stepped s rest) whole.1)
     ∙ place_stays (1 + length fields) whole.0 rest

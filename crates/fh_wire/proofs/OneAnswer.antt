@@ -69,9 +69,11 @@ request_not_refused bytes h rest begins (never_request none) =
 
 pub one_request : (bytes : List ℕ) (r q : Result HttpIn WireFault) → RequestIs bytes r → RequestIs bytes q → r ≡ q
 one_request bytes r q (refused_request a is) (refused_request b same) = is ∙ sym same
-one_request bytes r q (refused_request a is) (whole_request h rest b same) = absurd (request_not_refused bytes h rest b a)
+one_request bytes r q (refused_request a is) (whole_request h rest b same) =
+    absurd (request_not_refused bytes h rest b a)
 one_request bytes r q (refused_request a is) (unended_request b same) = absurd (b.0 a)
-one_request bytes r q (whole_request h rest a is) (refused_request b same) = absurd (request_not_refused bytes h rest a b)
+one_request bytes r q (whole_request h rest a is) (refused_request b same) =
+    absurd (request_not_refused bytes h rest a b)
 one_request bytes r q (whole_request h rest a is) (whole_request k tail b same) =
     let one = request_unique bytes h k rest tail a.reads b.reads in
     is ∙ ap (λ (m : RequestHead). request_of m rest) one.0 ∙ ap (request_of k) one.1 ∙ sym same

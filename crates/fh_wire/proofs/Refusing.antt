@@ -20,7 +20,8 @@ wide_stays scan (b ∷ more) is =
 pub refused_onward : (bytes more : List ℕ) → IsRefusedRequest bytes → IsRefusedRequest (bytes ++ more)
 refused_onward bytes more (long many) = long (omega (arith, many, head_lines-append bytes more))
 refused_onward bytes more (wide is) =
-    wide (ap (λ (s : Scan). s.wide) (fold-append stepped fresh bytes more) ∙ wide_stays (fold stepped fresh bytes) more is)
+    wide (ap (λ (s : Scan). s.wide) (fold-append stepped fresh bytes more)
+    ∙ wide_stays (fold stepped fresh bytes) more is)
 refused_onward bytes more (never none) =
     never (λ after h rest reads. none (more ++ after) h rest (reads.0, sym (append_assoc bytes more after) ∙ reads.1))
 

@@ -55,7 +55,8 @@ unskipped (b ∷ text) all =
     rw other refl
 
 trimmed : (text : List ℕ) → AllPass is_ascii_digit text → trim_ows (32 ∷ text) ≡ text
-trimmed text all = trim_ows_space text (unskipped text all) (unskipped (reverse text) (AllPass-reverse is_ascii_digit text all))
+trimmed text all = trim_ows_space text (unskipped text all)
+    (unskipped (reverse text) (AllPass-reverse is_ascii_digit text all))
 
 all_ascii : (text : List ℕ) → AllPass is_ascii_digit text → list_all is_ascii text ≡ true
 all_ascii [] all = refl
@@ -69,7 +70,8 @@ digit_value_byte : (b : ℕ) → is_ascii_digit b ≡ true → is_value_byte b �
 digit_value_byte b digit = grind (arith, nat_tests)
 
 value_digits : (text : List ℕ) → AllPass is_ascii_digit text → AllPass is_value_byte text
-value_digits text all = All-weaker (λ b. IsTrue (is_ascii_digit b)) (λ b. IsTrue (is_value_byte b)) digit_value_byte text all
+value_digits text all = All-weaker (λ b. IsTrue (is_ascii_digit b)) (λ b. IsTrue (is_value_byte b))
+    digit_value_byte text all
 
 -- ---- fields
 
@@ -113,10 +115,12 @@ host_is : (port : List ℕ) → AllPass is_ascii_digit port → IsField (host_fi
 unfolding is_token_byte
 host_is port digits = record {
   name = (omega arith, AllPass-from_test is_token_byte (codes "Host") refl);
-  raw = All-append (λ b. IsTrue (is_value_byte b)) (codes " 127.0.0.1:") port (AllPass-from_test is_value_byte (codes " 127.0.0.1:") refl) (value_digits port digits);
+  raw = All-append (λ b. IsTrue (is_value_byte b)) (codes " 127.0.0.1:") port
+      (AllPass-from_test is_value_byte (codes " 127.0.0.1:") refl) (value_digits port digits);
 }
 
-answered_fields : (size : List ℕ) → AllPass is_ascii_digit size → All IsField (type_field ∷ size_field size ∷ close_field ∷ [])
+answered_fields : (size : List ℕ) → AllPass is_ascii_digit size
+    → All IsField (type_field ∷ size_field size ∷ close_field ∷ [])
 answered_fields size digits =
     All-cons IsField type_field (size_field size ∷ close_field ∷ []) type_is
     (All-cons IsField (size_field size) (close_field ∷ []) (size_is size digits)
@@ -125,12 +129,14 @@ answered_fields size digits =
 abbrev sized : ℕ → Framing
 sized n = record { wide = false; chunked = false; coded = false; unread = false; length = Some n }
 
-framing_posted : (port size : List ℕ) (n : ℕ) → trim_ows (32 ∷ size) ≡ size → number_of size ≡ Some n → list_all is_ascii size ≡ true
+framing_posted : (port size : List ℕ) (n : ℕ) → trim_ows (32 ∷ size) ≡ size → number_of size ≡ Some n
+    → list_all is_ascii size ≡ true
     → framing (map name_and_value (host_field port ∷ type_field ∷ size_field size ∷ close_field ∷ [])) ≡ sized n
 unfolding kind_of
 framing_posted port size n value number low = rw (value, number, low) refl
 
-framing_answered : (size : List ℕ) (n : ℕ) → trim_ows (32 ∷ size) ≡ size → number_of size ≡ Some n → list_all is_ascii size ≡ true
+framing_answered : (size : List ℕ) (n : ℕ) → trim_ows (32 ∷ size) ≡ size → number_of size ≡ Some n
+    → list_all is_ascii size ≡ true
     → framing (map name_and_value (type_field ∷ size_field size ∷ close_field ∷ [])) ≡ sized n
 unfolding kind_of
 framing_answered size n value number low = rw (value, number, low) refl
@@ -174,24 +180,35 @@ posted_is : (name port size : List ℕ) → IsPath name → AllPass is_ascii_dig
 unfolding posted_head is_token_byte
 posted_is name port size path ports sizes = record {
   method = (omega arith, AllPass-from_test is_token_byte (codes "POST") refl);
-  target = (omega arith, All-cons (λ b. IsTrue (is_uri_byte b)) 47 name refl (All-weaker (λ b. (33 ≤ b) × (b ≤ 126)) (λ b. IsTrue (is_uri_byte b)) path_uri name path));
-  target_text = IsUtf8-from_ascii (47 ∷ name) (IsAscii-from_all (47 ∷ name) (All-cons (λ b. b < 128) 47 name (omega arith) (All-weaker (λ b. (33 ≤ b) × (b ≤ 126)) (λ b. b < 128) path_low name path)));
+  target = (
+    omega arith,
+    All-cons (λ b. IsTrue (is_uri_byte b)) 47 name refl
+        (All-weaker (λ b. (33 ≤ b) × (b ≤ 126)) (λ b. IsTrue (is_uri_byte b)) path_uri name path),
+  );
+  target_text = IsUtf8-from_ascii (47 ∷ name)
+      (IsAscii-from_all (47 ∷ name) (All-cons (λ b. b < 128) 47 name (omega arith)
+      (All-weaker (λ b. (33 ≤ b) × (b ≤ 126)) (λ b. b < 128) path_low name path)));
   minor = omega arith;
-  fields = All-cons IsField (host_field port) (type_field ∷ size_field size ∷ close_field ∷ []) (host_is port ports) (answered_fields size sizes);
+  fields = All-cons IsField (host_field port) (type_field ∷ size_field size ∷ close_field ∷ []) (host_is port ports)
+      (answered_fields size sizes);
 }
 
 request_grouped : (m name v e h a p t u l s c d body : List ℕ)
     → (((m ++ 32 ∷ 47 ∷ []) ++ name ++ 32 ∷ v) ++ e) ++ (((h ++ 58 ∷ a) ++ p) ++ e)
     ++ (((t ++ 58 ∷ u) ++ e) ++ (((l ++ 58 ∷ 32 ∷ []) ++ s) ++ e) ++ ((c ++ 58 ∷ d) ++ e) ++ ([] ++ e)) ++ body
-    ≡ m ++ 32 ∷ ((47 ∷ name) ++ 32 ∷ (v ++ (e ++ ((((h ++ 58 ∷ (a ++ p) ++ e) ++ ((t ++ 58 ∷ u ++ e) ++ ((l ++ 58 ∷ (32 ∷ s) ++ e) ++ ((c ++ 58 ∷ d ++ e) ++ [])))) ++ e) ++ body))))
+    ≡ m ++ 32 ∷ ((47 ∷ name) ++ 32 ∷ (v ++
+    (e ++ ((((h ++ 58 ∷ (a ++ p) ++ e) ++ ((t ++ 58 ∷ u ++ e)
+    ++ ((l ++ 58 ∷ (32 ∷ s) ++ e) ++ ((c ++ 58 ∷ d ++ e) ++ [])))) ++ e) ++ body))))
 request_grouped m name v e h a p t u l s c d body = simp (append_assoc, cons-append, append-nil)
 
 posted_printed : (name : List ℕ) (port : ℕ) (body : List ℕ)
     → request_text name port body ≡ print_request (posted_head name (decimal port) (decimal (length body))) ++ body
 unfolding posted_head
 posted_printed name port body =
-    request_grouped (codes "POST") name (print_version 0) (print_end crlf) (codes "Host") (codes " 127.0.0.1:") (decimal port)
-    (codes "Content-Type") (codes " application/json") (codes "Content-Length") (decimal (length body)) (codes "Connection") (codes " close") body
+    request_grouped (codes "POST") name (print_version 0) (print_end crlf) (codes "Host") (codes " 127.0.0.1:")
+    (decimal port)
+    (codes "Content-Type") (codes " application/json") (codes "Content-Length") (decimal (length body))
+    (codes "Connection") (codes " close") body
     ∙ sym (print_request-append (posted_head name (decimal port) (decimal (length body))) body)
 
 pub posted_read : (name : List ℕ) (port : ℕ) (body : List ℕ) → IsPath name → port < 2 ^ 16
@@ -200,19 +217,34 @@ unfolding posted_head
 posted_read name port body path small few =
     let h = posted_head name (decimal port) (decimal (length body)) in
     let printed = posted_printed name port body in
-    let counted : length (print_request h) + length body ≤ 2097152 = omega (arith, few, ap length printed, length-append (print_request h) body) in
+    let counted : length (print_request h) + length body ≤ 2097152 =
+    omega (arith, few, ap length printed, length-append (print_request h) body) in
     let size : length body < 2 ^ 64 = omega (arith, counted) in
     let digits = all_digits (length body) size in
-    let fields = framing_posted (decimal port) (decimal (length body)) (length body) (trimmed _ digits) (number_read (length body) (omega (arith, counted))) (all_ascii _ digits) in
+    let fields = framing_posted (decimal port) (decimal (length body)) (length body) (trimmed _ digits)
+    (number_read (length body) (omega (arith, counted))) (all_ascii _ digits) in
     whole h body
     (record {
-      taken = (omega arith, IsAscii-from_all (47 ∷ name) (All-cons (λ b. b < 128) 47 name (omega arith) (All-weaker (λ b. (33 ≤ b) × (b ≤ 126)) (λ b. b < 128) path_low name path)));
-      reads = (posted_is name (decimal port) (decimal (length body)) path (all_digits port (omega (arith, small))) digits, printed);
+      taken = (
+        omega arith,
+        IsAscii-from_all (47 ∷ name)
+            (All-cons (λ b. b < 128) 47 name (omega arith)
+            (All-weaker (λ b. (33 ≤ b) × (b ≤ 126)) (λ b. b < 128) path_low name path)),
+      );
+      reads = (
+        posted_is name (decimal port) (decimal (length body)) path (all_digits port (omega (arith, small)))
+            digits,
+        printed,
+      );
       within = omega (arith, counted);
     })
-    (sym (ap (λ (f : Framing). request_needs f (length (print_request h)) >>= λ needed. (body_of needed body >>= λ read. Ok (record { method = codes "POST"; target = 47 ∷ name; body = read }))) fields
-    ∙ ap (λ (r : Result ℕ WireFault). r >>= λ needed. (body_of needed body >>= λ read. Ok (record { method = codes "POST"; target = 47 ∷ name; body = read }))) (request_room (length (print_request h)) (length body) counted)
-    ∙ ap (λ (r : Result (List ℕ) WireFault). r >>= λ read. Ok (record { method = codes "POST"; target = 47 ∷ name; body = read })) (body_whole body)))
+    (sym (ap (λ (f : Framing). request_needs f (length (print_request h)) >>= λ needed.
+    (body_of needed body >>= λ read. Ok (record { method = codes "POST"; target = 47 ∷ name; body = read }))) fields
+    ∙ ap (λ (r : Result ℕ WireFault). r >>= λ needed.
+    (body_of needed body >>= λ read. Ok (record { method = codes "POST"; target = 47 ∷ name; body = read })))
+    (request_room (length (print_request h)) (length body) counted)
+    ∙ ap (λ (r : Result (List ℕ) WireFault). r >>= λ read. Ok
+    (record { method = codes "POST"; target = 47 ∷ name; body = read })) (body_whole body)))
 
 -- ---- responses
 
@@ -224,14 +256,22 @@ phrase_passes : (status : ℕ) → status < 1000 → AllPass is_value_byte (phra
 phrase_passes status few =
     let test = λ (k : ℕ). list_all is_value_byte (phrase_of k) in
     AllPass-from_test is_value_byte (phrase_of status)
-    ((Decides-below_and test (λ k. test k ≡ true) passes_below (λ k. (λ x. x, λ x. x)) refl (λ _. refl) 1000).0 refl status few)
+    ((Decides-below_and test (λ k. test k ≡ true) passes_below (λ k. (λ x. x, λ x. x)) refl (λ _. refl)
+    1000).0 refl status few)
 
 three_digits : (status : ℕ) → 100 ≤ status → status < 1000 → length (decimal status) ≡ 3
 three_digits status low high =
     let one = decimal_step status (omega arith) (omega arith) in
     let two = decimal_step (status / 10) (omega arith) (omega arith) in
     let three = decimal_digit (status / 10 / 10) (omega arith) in
-    omega (arith, ap length one, length-append (decimal (status / 10)) ((48 + status % 10) ∷ []), ap length two, length-append (decimal (status / 10 / 10)) ((48 + status / 10 % 10) ∷ []), ap length three)
+    omega (
+      arith,
+      ap length one,
+      length-append (decimal (status / 10)) ((48 + status % 10) ∷ []),
+      ap length two,
+      length-append (decimal (status / 10 / 10)) ((48 + status / 10 % 10) ∷ []),
+      ap length three,
+    )
 
 answered_head : List ℕ → List ℕ → List ℕ → ResponseHead
 answered_head status phrase size = record {
@@ -244,7 +284,8 @@ answered_head status phrase size = record {
   last = crlf;
 }
 
-answered_is : (status phrase size : List ℕ) → length status ≡ 3 → AllPass is_ascii_digit status → AllPass is_value_byte phrase
+answered_is : (status phrase size : List ℕ) → length status ≡ 3 → AllPass is_ascii_digit status
+    → AllPass is_value_byte phrase
     → AllPass is_ascii_digit size → IsResponseHead (answered_head status phrase size)
 unfolding answered_head
 answered_is status phrase size three digits passes sizes = record {
@@ -257,15 +298,18 @@ answered_is status phrase size three digits passes sizes = record {
 response_grouped : (v n q e t u l s c d body : List ℕ)
     → (((v ++ 32 ∷ []) ++ n ++ 32 ∷ [] ++ q) ++ e)
     ++ (((t ++ 58 ∷ u) ++ e) ++ (((l ++ 58 ∷ 32 ∷ []) ++ s) ++ e) ++ ((c ++ 58 ∷ d) ++ e) ++ ([] ++ e)) ++ body
-    ≡ v ++ 32 ∷ (n ++ ((32 ∷ q) ++ (e ++ ((((t ++ 58 ∷ u ++ e) ++ ((l ++ 58 ∷ (32 ∷ s) ++ e) ++ ((c ++ 58 ∷ d ++ e) ++ []))) ++ e) ++ body))))
+    ≡ v ++ 32 ∷ (n ++ ((32 ∷ q) ++ (e ++
+    ((((t ++ 58 ∷ u ++ e) ++ ((l ++ 58 ∷ (32 ∷ s) ++ e) ++ ((c ++ 58 ∷ d ++ e) ++ []))) ++ e) ++ body))))
 response_grouped v n q e t u l s c d body = simp (append_assoc, cons-append, append-nil)
 
 answered_printed : (status : ℕ) (body : List ℕ)
-    → response_text status body ≡ print_response (answered_head (decimal status) (phrase_of status) (decimal (length body))) ++ body
+    → response_text status body ≡ print_response
+    (answered_head (decimal status) (phrase_of status) (decimal (length body))) ++ body
 unfolding answered_head
 answered_printed status body =
     response_grouped (print_version 1) (decimal status) (phrase_of status) (print_end crlf)
-    (codes "Content-Type") (codes " application/json") (codes "Content-Length") (decimal (length body)) (codes "Connection") (codes " close") body
+    (codes "Content-Type") (codes " application/json") (codes "Content-Length") (decimal (length body))
+    (codes "Connection") (codes " close") body
     ∙ sym (print_response-append (answered_head (decimal status) (phrase_of status) (decimal (length body))) body)
 
 pub answered_read : (status : ℕ) (body : List ℕ) → 100 ≤ status → status < 1000
@@ -274,18 +318,28 @@ unfolding answered_head
 answered_read status body low high few =
     let h = answered_head (decimal status) (phrase_of status) (decimal (length body)) in
     let printed = answered_printed status body in
-    let counted : length (print_response h) + length body ≤ 2097152 = omega (arith, few, ap length printed, length-append (print_response h) body) in
+    let counted : length (print_response h) + length body ≤ 2097152 =
+    omega (arith, few, ap length printed, length-append (print_response h) body) in
     let small : status < 2 ^ 64 = omega (arith, high) in
     let size : length body < 2 ^ 64 = omega (arith, counted) in
     let digits = all_digits (length body) size in
-    let fields = framing_answered (decimal (length body)) (length body) (trimmed _ digits) (number_read (length body) (omega (arith, counted))) (all_ascii _ digits) in
+    let fields = framing_answered (decimal (length body)) (length body) (trimmed _ digits)
+    (number_read (length body) (omega (arith, counted))) (all_ascii _ digits) in
     whole_response h body
     (record {
       taken = omega arith;
-      reads = (answered_is (decimal status) (phrase_of status) (decimal (length body)) (three_digits status low high) (all_digits status small) (phrase_passes status high) digits, printed);
+      reads = (
+        answered_is (decimal status) (phrase_of status) (decimal (length body)) (three_digits status low high)
+            (all_digits status small) (phrase_passes status high) digits,
+        printed,
+      );
       within = omega (arith, counted);
     })
-    (sym (ap (λ (f : Framing). response_needs f (length (print_response h)) (length body) >>= λ needed. (body_of needed body >>= λ read. Ok (record { status = digits_value 10 (decimal status); body = read }))) fields
-    ∙ ap (λ (r : Result ℕ WireFault). r >>= λ needed. (body_of needed body >>= λ read. Ok (record { status = digits_value 10 (decimal status); body = read }))) (response_room (length (print_response h)) (length body) counted)
-    ∙ ap (λ (r : Result (List ℕ) WireFault). r >>= λ read. Ok (record { status = digits_value 10 (decimal status); body = read })) (body_whole body)
+    (sym (ap (λ (f : Framing). response_needs f (length (print_response h)) (length body) >>= λ needed.
+    (body_of needed body >>= λ read. Ok (record { status = digits_value 10 (decimal status); body = read }))) fields
+    ∙ ap (λ (r : Result ℕ WireFault). r >>= λ needed.
+    (body_of needed body >>= λ read. Ok (record { status = digits_value 10 (decimal status); body = read })))
+    (response_room (length (print_response h)) (length body) counted)
+    ∙ ap (λ (r : Result (List ℕ) WireFault). r >>= λ read. Ok
+    (record { status = digits_value 10 (decimal status); body = read })) (body_whole body)
     ∙ ap (λ (s : ℕ). Ok (record { status = s; body = body })) (digits_value-decimal own status small)))

@@ -70,7 +70,8 @@ lacks_open was now bytes fault read is (inl end) fails =
     record {
       taken = bytes;
       consumed = read;
-      is = unended (subst IsOpenRequest (ap front (sym all)) is) (ap (λ (f : WireFault). Err f) (fails ∙ ap (λ (t : List ℕ). unfinished (length t)) (sym all)));
+      is = unended (subst IsOpenRequest (ap front (sym all)) is)
+          (ap (λ (f : WireFault). Err f) (fails ∙ ap (λ (t : List ℕ). unfinished (length t)) (sym all)));
       few = λ h rest reads. tt;
     }
 lacks_open was now bytes fault read is (inr long) fails =
@@ -78,7 +79,9 @@ lacks_open was now bytes fault read is (inr long) fails =
     record {
       taken = bytes;
       consumed = read;
-      is = unended (subst IsOpenRequest (sym (front_full bytes (known now) long)) is) (ap (λ (f : WireFault). Err f) (fails ∙ long_unfinished (length bytes) (length (bytes ++ known now)) long size));
+      is = unended (subst IsOpenRequest (sym (front_full bytes (known now) long)) is)
+          (ap (λ (f : WireFault). Err f) (fails ∙ long_unfinished (length bytes) (length (bytes ++ known now))
+          long size));
       few = λ h rest reads. tt;
     }
 
@@ -99,18 +102,21 @@ scanned_front old piece bytes found back n s t is few at_front counted behind fi
 
 -- the head ends with the last piece
 pub ends_late : (old piece bytes : List ℕ) (h : RequestHead) (rest : List ℕ) → bytes ≡ old ++ piece
-    → length old ≤ 2097152 → HasNoRequest old → ReadsRequest (front bytes) h rest → length old < length (print_request h)
+    → length old ≤ 2097152 → HasNoRequest old → ReadsRequest (front bytes) h rest
+    → length old < length (print_request h)
 ends_late old piece bytes h rest is few none reads =
     elim (cases_lt (length old) (length (print_request h))) [
       | inl late ↦ late
       | inr early ↦
           let begins = front_begins bytes old piece is few in
           let printed : take (length (print_request h)) old ≡ print_request h =
-          sym (take-append-le (length (print_request h)) old begins.0 early) ∙ ap (take (length (print_request h))) (sym begins.1 ∙ reads.1)
+          sym (take-append-le (length (print_request h)) old begins.0 early)
+          ∙ ap (take (length (print_request h))) (sym begins.1 ∙ reads.1)
           ∙ take_at (print_request h) rest (length (print_request h)) refl in
           absurd (none h (drop (length (print_request h)) old) (
             reads.0,
-            sym (take-append-drop (length (print_request h)) old) ∙ ap (λ (t : List ℕ). t ++ drop (length (print_request h)) old) printed,
+            sym (take-append-drop (length (print_request h)) old)
+                ∙ ap (λ (t : List ℕ). t ++ drop (length (print_request h)) old) printed,
           ))
     ]
 
@@ -168,10 +174,12 @@ unfinished_passes a b u v n fault is passed =
     by_test false = passed
 
 -- a body that has come with the head
-pub begun_whole : (was : Option (List ℕ)) (begun body : List ℕ) (needed : ℕ) → body ≡ take needed begun → needed ≤ length begun
+pub begun_whole : (was : Option (List ℕ)) (begun body : List ℕ) (needed : ℕ) → body ≡ take needed begun
+    → needed ≤ length begun
     → ReadsBy was was (Ok body) (λ rest. body_of needed (begun ++ rest)) (λ all. length all - length begun)
 begun_whole was begun body needed is fits =
-    let size : (nat_lt (length (begun ++ ([] ++ known was))) needed) ≡ false = grind (arith, nat_tests, length-append begun ([] ++ known was)) in
+    let size : (nat_lt (length (begun ++ ([] ++ known was))) needed) ≡ false =
+    grind (arith, nat_tests, length-append begun ([] ++ known was)) in
     record {
       taken = [];
       consumed = consumes-none was;
@@ -180,7 +188,8 @@ begun_whole was begun body needed is fits =
     }
 
 -- what the fields say is no failed read
-pub needs_pass : (a b : ℕ) (u v : Bool) (f : Framing) (n : ℕ) (e : WireFault) → Err e ≡ request_needs f n → Passes a b u v
+pub needs_pass : (a b : ℕ) (u v : Bool) (f : Framing) (n : ℕ) (e : WireFault) → Err e ≡ request_needs f n
+    → Passes a b u v
     → IsReadCause a b u v e
 needs_pass a b u v f n ReadFault is passed = absurd (no_read f.wide f.chunked f.coded f.unread f.length is)
   where
@@ -189,7 +198,8 @@ needs_pass a b u v f n ReadFault is passed = absurd (no_read f.wide f.chunked f.
     no_room false m bad = cc
 
     no_read : (w x y z : Bool) (given : Option ℕ)
-        → Err ReadFault ≡ ((if w then Err BadHead else if x then Err Chunked else if y then Err Coded else if z then Err BadLength else Ok given) >>= λ got. fitting n (unwrap_or got 0)) → ⊥
+        → Err ReadFault ≡ ((if w then Err BadHead else if x then Err Chunked else if y then Err Coded else if z then
+        Err BadLength else Ok given) >>= λ got. fitting n (unwrap_or got 0)) → ⊥
     no_read true x y z given bad = cc
     no_read false true y z given bad = cc
     no_read false false true z given bad = cc
@@ -204,7 +214,8 @@ needs_pass a b u v f n Coded is passed = passed
 needs_pass a b u v f n WriteFault is passed = passed
 needs_pass a b u v f n NoMemory is passed = passed
 
-pub cause-join : {A : Type 0} (a b c : ℕ) (u v w : Bool) (r : Result A WireFault) → Passes a b u v → HasReadCause b c v w r
+pub cause-join : {A : Type 0} (a b c : ℕ) (u v w : Bool) (r : Result A WireFault) → Passes a b u v
+    → HasReadCause b c v w r
     → HasReadCause a c u w r
 cause-join a b c u v w (Ok x) one two = passes-join a b c u v w one two
 cause-join a b c u v w (Err e) one two = by_fault e two

@@ -17,10 +17,14 @@ abbrev crlf : List ℕ
 crlf = 13 ∷ 10 ∷ []
 
 pub request_lines : (head name port size body : List ℕ)
-    → head ≡ codes "POST /" ++ (name ++ ((codes " HTTP/1.0" ++ (crlf ++ codes "Host: 127.0.0.1:")) ++ (port ++ ((crlf ++ (codes "Content-Type: application/json" ++ (crlf ++ codes "Content-Length: "))) ++ (size ++ (crlf ++ (codes "Connection: close" ++ (crlf ++ crlf))))))))
+    → head ≡ codes "POST /" ++ (name ++
+    ((codes " HTTP/1.0" ++ (crlf ++ codes "Host: 127.0.0.1:"))
+    ++ (port ++ ((crlf ++ (codes "Content-Type: application/json" ++ (crlf ++ codes "Content-Length: ")))
+    ++ (size ++ (crlf ++ (codes "Connection: close" ++ (crlf ++ crlf))))))))
     → head ++ body
     ≡ line (codes "POST /" ++ name ++ codes " HTTP/1.0") ++ line (codes "Host: 127.0.0.1:" ++ port)
-    ++ (line (codes "Content-Type: application/json") ++ line (codes "Content-Length: " ++ size) ++ line (codes "Connection: close") ++ line []) ++ body
+    ++ (line (codes "Content-Type: application/json") ++ line (codes "Content-Length: " ++ size)
+    ++ line (codes "Connection: close") ++ line []) ++ body
 request_lines head name port size body is =
     ap (λ (t : List ℕ). t ++ body) is
     ∙ spread (codes "POST /") name (codes " HTTP/1.0" ++ (crlf ++ codes "Host: 127.0.0.1:")) port
@@ -35,10 +39,14 @@ regrouped_status : (a n b p e t l s c body : List ℕ)
 regrouped_status a n b p e t l s c body = simp append_assoc
 
 pub response_lines : (head status phrase size body : List ℕ)
-    → head ≡ codes "HTTP/1.1 " ++ (status ++ (codes " " ++ (phrase ++ ((crlf ++ (codes "Content-Type: application/json" ++ (crlf ++ codes "Content-Length: "))) ++ (size ++ (crlf ++ (codes "Connection: close" ++ (crlf ++ crlf))))))))
+    → head ≡ codes "HTTP/1.1 " ++ (status ++
+    (codes " " ++ (phrase ++
+    ((crlf ++ (codes "Content-Type: application/json" ++ (crlf ++ codes "Content-Length: ")))
+    ++ (size ++ (crlf ++ (codes "Connection: close" ++ (crlf ++ crlf))))))))
     → head ++ body
     ≡ line (codes "HTTP/1.1 " ++ status ++ codes " " ++ phrase)
-    ++ (line (codes "Content-Type: application/json") ++ line (codes "Content-Length: " ++ size) ++ line (codes "Connection: close") ++ line []) ++ body
+    ++ (line (codes "Content-Type: application/json") ++ line (codes "Content-Length: " ++ size)
+    ++ line (codes "Connection: close") ++ line []) ++ body
 response_lines head status phrase size body is =
     ap (λ (t : List ℕ). t ++ body) is
     ∙ spread (codes "HTTP/1.1 ") status (codes " ") phrase

@@ -5,4 +5,5 @@ use Rattle.fh_app.specs.Bindings.{has_name}
 use Rattle.fh_app.proofs.bindings.is_taken.Given as goal
 
 abbrev pub invariant-loop-binding : goal.invariant-loop-binding
-invariant-loop-binding l = list_any (has_name l.name) (map view l.before) ≡ list_any (has_name l.name) (map view (drop l.binding-index l.before))
+invariant-loop-binding l = list_any (has_name l.name) (map view l.before)
+    ≡ list_any (has_name l.name) (map view (drop l.binding-index l.before))

@@ -26,4 +26,5 @@ returns-clause-written g c =
     (g.O.Sink.written c.write_all-written.new.sink) line
     (g.O.Sink.write_faults c.args.sink.now) (g.O.Sink.write_faults c.write_all-written.new.sink))
     c.as_bytes.ensures.value
-    (concludes _ _ _ _ _ c.write_all-written.result c.write_all-written.ensures.written c.write_all-written.ensures.cause)
+    (concludes _ _ _ _ _ c.write_all-written.result c.write_all-written.ensures.written
+    c.write_all-written.ensures.cause)

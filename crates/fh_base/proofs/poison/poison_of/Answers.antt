@@ -10,5 +10,6 @@ returns c =
     (answers c.as_bytes-name.result.now _ c.of_bytes.result c.if-name-gt-MOST.false
     (sym c.ends_with.ensures.value ∙ c.if-ends_with.false)
     c.as_bytes-name.ensures.name
-    (put_in c.as_bytes-name.result.now poison_ending _ c.put_at.new.text c.put_at-2.new.text c.put_at.ensures c.put_at-2.ensures)
+    (put_in c.as_bytes-name.result.now poison_ending _ c.put_at.new.text c.put_at-2.new.text c.put_at.ensures
+    c.put_at-2.ensures)
     c.of_bytes.ensures)

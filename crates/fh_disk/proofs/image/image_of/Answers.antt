@@ -17,12 +17,16 @@ loop-call-preserved c =
     let so_far = c.loop-call.invariant in
     let then = c.in_ok-go_on.ensures in
     let more : take (c.loop-call.call-index + 1) c.args.calls.now ≡ before ++ call ∷ [] =
-    (take_at_read c.args.calls.now c.loop-call.call-index call c.loop-call-test.true).1 ∙ ap (λ (x : Call). before ++ x ∷ []) (sym c.call-item.is) in
-    let image = subst (λ (file : List ℕ). Leaves file (λ new. new ≡ c.loop-call.image.items) (call ∷ []) c.go_on.new.image.items) so_far.file then.image in
+    (take_at_read c.args.calls.now c.loop-call.call-index call c.loop-call-test.true).1
+    ∙ ap (λ (x : Call). before ++ x ∷ []) (sym c.call-item.is) in
+    let image = subst (λ (file : List ℕ). Leaves file (λ new. new ≡ c.loop-call.image.items) (call ∷ [])
+    c.go_on.new.image.items) so_far.file then.image in
     record {
       choice = then.choice ∙ so_far.choice;
-      file = then.file ∙ ap (λ (file : List ℕ). replayed file (call ∷ [])) so_far.file ∙ sym (replayed-push first before call) ∙ ap (replayed first) (sym more);
-      image = subst (λ (calls : List Call). Leaves first images calls c.go_on.new.image.items) (sym more) (image_goes_on first images before call c.loop-call.image.items c.go_on.new.image.items so_far.image image);
+      file = then.file ∙ ap (λ (file : List ℕ). replayed file (call ∷ [])) so_far.file
+          ∙ sym (replayed-push first before call) ∙ ap (replayed first) (sym more);
+      image = subst (λ (calls : List Call). Leaves first images calls c.go_on.new.image.items) (sym more)
+          (image_goes_on first images before call c.loop-call.image.items c.go_on.new.image.items so_far.image image);
       lost = λ zero.
           then.lost (so_far.choice ∙ zero)
           ∙ ap (λ (synced : List ℕ). synced_by synced c.loop-call.file.items (call ∷ [])) (so_far.lost zero)

@@ -14,20 +14,25 @@ returns-in_err-name-clause-none c =
 
 pub returns-then-is_empty-clause-none : goal.returns-then-is_empty-clause-none
 returns-then-is_empty-clause-none c =
-    let cut = split_parts close_brace c.args.text.now (Some (c.in_ok-name.name, c.in_ok-name.rest)) c.in_ok-name.ensures.cases (lit< tt) in
+    let cut = split_parts close_brace c.args.text.now (Some (c.in_ok-name.name, c.in_ok-name.rest))
+    c.in_ok-name.ensures.cases (lit< tt) in
     elim c.then-is_empty.branch [
       | then-is_empty-via-then-is_empty w ↦
           empty_name c.args.text.now c.in_ok-name.name.now c.in_ok-name.rest.now cut.0
           (eqb-true (length c.in_ok-name.name.now) 0 (sym c.is_empty.ensures ∙ w.if-is_empty.true))
       | then-is_empty-via-else-is_empty+then-contains w ↦
-          let found = (contains_char open_brace c.in_ok-name.name.now w.contains.result w.contains.ensures.cases (lit< tt)).0 w.if-contains.true in
-          open_in_name c.args.text.now c.in_ok-name.name.now c.in_ok-name.rest.now found.0 cut.0 cut.1 c.requires found.1 found.2
+          let found = (contains_char open_brace c.in_ok-name.name.now w.contains.result w.contains.ensures.cases
+          (lit< tt)).0 w.if-contains.true in
+          open_in_name c.args.text.now c.in_ok-name.name.now c.in_ok-name.rest.now found.0 cut.0 cut.1 c.requires
+          found.1 found.2
     ]
 
 pub returns-clause-some : goal.returns-clause-some
 returns-clause-some c naming layout at =
-    let cut = split_parts close_brace c.args.text.now (Some (c.in_ok-name.name, c.in_ok-name.rest)) c.in_ok-name.ensures.cases (lit< tt) in
-    let only = (contains_char open_brace c.in_ok-name.name.now c.contains.result c.contains.ensures.cases (lit< tt)).1 in
+    let cut = split_parts close_brace c.args.text.now (Some (c.in_ok-name.name, c.in_ok-name.rest))
+    c.in_ok-name.ensures.cases (lit< tt) in
+    let only = (contains_char open_brace c.in_ok-name.name.now c.contains.result c.contains.ensures.cases
+    (lit< tt)).1 in
     let filled : 0 < length c.in_ok-name.name.now =
     let ne = eqb-false (length c.in_ok-name.name.now) 0 (sym c.is_empty.ensures ∙ c.if-is_empty.false) in omega arith in
     named_at naming layout at c.args.text.now c.in_ok-name.name.now c.in_ok-name.rest.now cut.0 filled cut.1

@@ -8,5 +8,6 @@ use Rattle.fh_exprs.proofs.form.plain_length.Goals as goal
 pub returns : goal.returns
 returns c =
     c.unwrap_or.ensures
-    ∙ ap (λ o. unwrap_or o (length c.args.text.now)) (c.first_brace.ensures ∙ ap (position is_brace) c.as_bytes.ensures.value)
+    ∙ ap (λ o. unwrap_or o (length c.args.text.now))
+    (c.first_brace.ensures ∙ ap (position is_brace) c.as_bytes.ensures.value)
     ∙ unwrap_or-position is_brace c.args.text.now

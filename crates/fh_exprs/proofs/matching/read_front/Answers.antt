@@ -27,7 +27,8 @@ returns c =
     let first = c.in-Some.first.now in
     let text = c.in-Some-text_behind.text.now in
     let items : c.reverse.new.self.items ≡ reverse (pairs ++ (first.1, text) ∷ []) =
-    c.reverse.ensures.items ∙ ap reverse (c.in_ok-push.ensures.items ∙ ap (λ p. pairs ++ p ∷ []) c.in_ok-pair_of.ensures) in
+    c.reverse.ensures.items ∙ ap reverse (c.in_ok-push.ensures.items
+    ∙ ap (λ p. pairs ++ p ∷ []) c.in_ok-pair_of.ensures) in
     let reads = front_reads first c.in-Some.others.now c.args.name.now c.in-Some-2.rest.now text pairs ends
     (behind.0 ∙ ap (λ b. b ++ text) c.as_str.ensures) behind.1 in
     rw (items, c.in-Some.ensures.cases.0) reads

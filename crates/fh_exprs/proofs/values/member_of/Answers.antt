@@ -15,7 +15,8 @@ last_member (Some d) = refl
 
 pub returns-in_err-found : goal.returns-in_err-found
 returns-in_err-found c =
-    let cut = split_parts dot c.loop-first.rest.now (Some (c.in-Some.first, c.in-Some.names)) c.in-Some.ensures.cases (lit< tt) in
+    let cut = split_parts dot c.loop-first.rest.now (Some (c.in-Some.first, c.in-Some.names)) c.in-Some.ensures.cases
+    (lit< tt) in
     let split = split_more dot c.loop-first.rest.now c.in-Some.first.now c.in-Some.names.now cut.0 cut.1 in
     rw c.from_residual.ensures
     (sym (c.loop-first.invariant.reads
@@ -24,13 +25,15 @@ returns-in_err-found c =
 
 pub loop-first-preserved : goal.loop-first-preserved
 loop-first-preserved c =
-    let cut = split_parts dot c.loop-first.rest.now (Some (c.in-Some.first, c.in-Some.names)) c.in-Some.ensures.cases (lit< tt) in
+    let cut = split_parts dot c.loop-first.rest.now (Some (c.in-Some.first, c.in-Some.names)) c.in-Some.ensures.cases
+    (lit< tt) in
     let split = split_more dot c.loop-first.rest.now c.in-Some.first.now c.in-Some.names.now cut.0 cut.1 in
     record {
       utf8 = search rules;
       reads = c.loop-first.invariant.reads
           ∙ ap (λ ps. member_at ps (view c.loop-first.found.now)) split
-          ∙ ap (option_and_then (member_at (slice_split (λ b. eqb b dot) c.in-Some.names.now))) (sym c.in_ok-found.ensures);
+          ∙ ap (option_and_then (member_at (slice_split (λ b. eqb b dot) c.in-Some.names.now)))
+          (sym c.in_ok-found.ensures);
     }
 
 pub returns : goal.returns

@@ -13,7 +13,8 @@ invariant-pieces g l = record {
   scanned : l.scan ≡ fold stepped fresh l.bytes.items;
   lines : l.scan.lines ≤ length l.bytes.items;
   headless : HasNoRequest l.bytes.items;
-  passed : Passes (g.S.Source.read_faults l.initial.source) (g.S.Source.read_faults l.source) (g.S.Source.reads_surely l.initial.source) (g.S.Source.reads_surely l.source);
+  passed : Passes (g.S.Source.read_faults l.initial.source) (g.S.Source.read_faults l.source)
+      (g.S.Source.reads_surely l.initial.source) (g.S.Source.reads_surely l.source);
   beside : g.S.Source.beside_reading l.source ≡ g.S.Source.beside_reading l.initial.source;
   most : g.S.Source.most l.source ≤ g.S.Source.most l.initial.source;
 }

@@ -14,5 +14,6 @@ returns-in-Whole c =
     let found = (rw c.front_of.ensures at c.in-Whole.ensures) in
     elim (c.whole_response.ensures found.0 found.1) [
       | inl none ↦ inl none
-      | inr is ↦ inr (answered c.args.bytes.now c.find_response.new.fields c.in-Whole.spans found.0 _ found.1 found.2 found.3 is)
+      | inr is ↦ inr (answered c.args.bytes.now c.find_response.new.fields c.in-Whole.spans found.0 _ found.1 found.2
+          found.3 is)
     ]

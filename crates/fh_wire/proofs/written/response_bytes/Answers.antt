@@ -7,6 +7,8 @@ use Rattle.fh_wire.proofs.written.response_bytes.Goals as goal
 
 pub returns : goal.returns
 returns c =
-    let head : c.into_bytes-bytes.result.items ≡ string_bytes c.in_ok-head.head = ap (λ v. v.items) c.into_bytes-bytes.ensures.value in
+    let head : c.into_bytes-bytes.result.items ≡ string_bytes c.in_ok-head.head =
+    ap (λ v. v.items) c.into_bytes-bytes.ensures.value in
     c.in_ok-extend_from_slice.ensures.items ∙ ap (λ (t : List ℕ). t ++ c.args.body.now) head
-    ∙ response_lines (string_bytes c.in_ok-head.head) (decimal c.args.status) (phrase_of c.args.status) (decimal (length c.args.body.now)) c.args.body.now (rw c.phrase_of-phrase.ensures at c.in_ok-head.ensures.ok)
+    ∙ response_lines (string_bytes c.in_ok-head.head) (decimal c.args.status) (phrase_of c.args.status)
+    (decimal (length c.args.body.now)) c.args.body.now (rw c.phrase_of-phrase.ensures at c.in_ok-head.ensures.ok)

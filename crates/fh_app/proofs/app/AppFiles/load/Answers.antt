@@ -8,7 +8,8 @@ use Rattle.fh_app.proofs.app.AppFiles.load.Goals as goal
 made : (told : Files) (host settings : Option (List ℕ)) (names : List (List ℕ)) (functions : Files)
     → host ≡ text_at (codes "host.json") told → settings ≡ text_at (codes "local.settings.json") told
     → names ≡ folders_of told → functions ≡ function_files_behind told [] names
-    → (let found : AppFiles = record { host = host; settings = settings; functions = functions } in found ≡ app_files told)
+    → (let found : AppFiles = record { host = host; settings = settings; functions = functions } in
+    found ≡ app_files told)
 unfolding app_files
 made told host settings names functions h s n f = rw (h, s, f, n) refl
 

@@ -16,7 +16,8 @@ returns-in_err-value c =
     (fault_passes c.in_err-value.field-0.0 (replacement settings c.in-Some.name.now) (replaced settings c.args.text.now)
     (λ fault is. c.loop-before.invariant.reads
     ∙ ap (mapped (λ t. string_bytes c.loop-before.done ++ t))
-    (next ∙ ap (λ r. joined (λ v more. c.in-Some.before.now ++ (v ++ more)) r (replaced settings c.in-Some.tail.now)) is))
+    (next ∙ ap (λ r. joined (λ v more. c.in-Some.before.now ++ (v ++ more)) r (replaced settings c.in-Some.tail.now))
+    is))
     c.in_err-value.ensures)
 
 pub loop-before-preserved : goal.loop-before-preserved
@@ -25,7 +26,8 @@ loop-before-preserved c =
     let next = c.in-Some.ensures.reads settings in
     let step = c.loop-before.invariant.reads
     ∙ ap (mapped (λ t. string_bytes c.loop-before.done ++ t))
-    (next ∙ ap (λ r. joined (λ v more. c.in-Some.before.now ++ (v ++ more)) r (replaced settings c.in-Some.tail.now)) c.in_ok-value.ensures) in
+    (next ∙ ap (λ r. joined (λ v more. c.in-Some.before.now ++ (v ++ more)) r (replaced settings c.in-Some.tail.now))
+    c.in_ok-value.ensures) in
     let grown = mapped-joined (string_bytes c.loop-before.done) c.in-Some.before.now c.in_ok-value.value.now
     (replaced settings c.args.text.now) (replaced settings c.in-Some.tail.now) step in
     record {

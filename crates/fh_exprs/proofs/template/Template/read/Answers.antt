@@ -7,7 +7,8 @@ use Rattle.fh_exprs.proofs.Writing.{written_of, reading_of_written}
 use Rattle.fh_exprs.proofs.template.Template.read.Goals as goal
 
 pub returns-clause-written : goal.returns-clause-written
-returns-clause-written c = written_of Free (replaced c.args.settings.now.pairs c.args.text.now) c.in_ok-form.form c.in_ok-form.ensures
+returns-clause-written c = written_of Free (replaced c.args.settings.now.pairs c.args.text.now)
+    c.in_ok-form.form c.in_ok-form.ensures
 
 pub returns-clause-every : goal.returns-clause-every
 returns-clause-every c layout names e =

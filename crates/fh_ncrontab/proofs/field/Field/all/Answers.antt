@@ -10,4 +10,5 @@ overflow_sub-result g c =
 
 pub invariant_of-result : goal.invariant_of-result
 invariant_of-result g c =
-    rw (one_bit g.row.LO (omega arith), one_bit (g.row.HI + 1) (omega arith)) (all_numbers-within g.row.LO g.row.HI c.requires.order)
+    rw (one_bit g.row.LO (omega arith), one_bit (g.row.HI + 1) (omega arith))
+    (all_numbers-within g.row.LO g.row.HI c.requires.order)

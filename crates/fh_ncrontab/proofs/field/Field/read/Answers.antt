@@ -32,7 +32,8 @@ pub returns-in_err-read : goal.returns-in_err-read
 returns-in_err-read g c =
     let left = ap (λ r. pieces_left 44 (option_copied r)) c.in-Some.is ∙ c.first_piece.ensures.pieces in
     let p = err_from_is_err_and c.from_residual.result c.from_residual.ensures.1 in
-    let fault = c.loop-rest.invariant.0 ∙ ap (first_fault g.row.LO g.row.HI) left ∙ first_fault-err _ _ _ _ _ c.in_err-read.ensures.value in
+    let fault = c.loop-rest.invariant.0 ∙ ap (first_fault g.row.LO g.row.HI) left
+    ∙ first_fault-err _ _ _ _ _ c.in_err-read.ensures.value in
     rw (p.1, p.2) (sym (ap (λ f. set_or f (numbers_of g.row.LO g.row.HI c.args.text.now)) fault))
 
 pub returns : goal.returns
@@ -40,6 +41,8 @@ returns g c =
     let left = ap (λ r. pieces_left 44 (option_copied r)) c.in_default.is in
     let faultless = c.loop-rest.invariant.0 ∙ ap (first_fault g.row.LO g.row.HI) left ∙ first_fault-none _ _ in
     let numbers : (n : ℕ) → holds c.loop-rest.mask n ≡ some_part_has g.row.LO g.row.HI (parts c.args.text.now) n =
-    λ n. sym (c.loop-rest.invariant.1 n ∙ ap (λ ps. holds c.loop-rest.mask n || some_part_has g.row.LO g.row.HI ps n) left ∙ some_part_has-none _ _ _ n) in
-    ap Ok (mask_is c.loop-rest.mask (some_part_has g.row.LO g.row.HI (parts c.args.text.now)) c.loop-rest.invariant.4 numbers)
+    λ n. sym (c.loop-rest.invariant.1 n ∙ ap (λ ps. holds c.loop-rest.mask n || some_part_has g.row.LO g.row.HI ps n)
+    left ∙ some_part_has-none _ _ _ n) in
+    ap Ok (mask_is c.loop-rest.mask (some_part_has g.row.LO g.row.HI (parts c.args.text.now))
+    c.loop-rest.invariant.4 numbers)
     ∙ sym (ap (λ f. set_or f (numbers_of g.row.LO g.row.HI c.args.text.now)) faultless)

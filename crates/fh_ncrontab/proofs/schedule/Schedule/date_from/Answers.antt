@@ -9,16 +9,20 @@ use Rattle.fh_ncrontab.proofs.schedule.Schedule.date_from.Goals.{else-holds-via-
 
 pub returns-in-Some-date_in_year : goal.returns-in-Some-date_in_year
 returns-in-Some-date_in_year c =
-    let rest : HasNoDate c.args.self.now (place c.args.year c.args.month c.args.day) (place c.args.year (c.args.month + 1) 0) =
+    let rest : HasNoDate c.args.self.now (place c.args.year c.args.month c.args.day)
+    (place c.args.year (c.args.month + 1) 0) =
     elim c.else-holds.branch [
-      | else-holds-via-else-holds w ↦ no_date_in_month _ _ _ _ c.requires.month.1 (λ yes. let no = sym w.if-holds.ensures ∙ refl in cc no)
+      | else-holds-via-else-holds w ↦ no_date_in_month _ _ _ _ c.requires.month.1
+          (λ yes. let no = sym w.if-holds.ensures ∙ refl in cc no)
       | else-holds-via-then-holds+in-None-1 w ↦ grind (arith, common_steps)
     ] in
-    first_behind _ _ (place c.args.year (c.args.month + 1) 0) (place c.args.year (c.args.month + 1) 0) _ _ _ rest (no_date_empty _ _) (omega arith) (omega arith) c.in-Some-date_in_year.ensures
+    first_behind _ _ (place c.args.year (c.args.month + 1) 0) (place c.args.year (c.args.month + 1) 0) _ _ _ rest
+    (no_date_empty _ _) (omega arith) (omega arith) c.in-Some-date_in_year.ensures
 
 pub returns-in-Some-date_in_year-2 : goal.returns-in-Some-date_in_year-2
 returns-in-Some-date_in_year-2 c =
-    first_behind _ _ (place c.loop-year.year 0 0) (place c.loop-year.year 1 0) _ _ _ c.loop-year.invariant (no_month_zero _ _) (omega arith) (omega arith) c.in-Some-date_in_year-2.ensures
+    first_behind _ _ (place c.loop-year.year 0 0) (place c.loop-year.year 1 0) _ _ _ c.loop-year.invariant
+    (no_month_zero _ _) (omega arith) (omega arith) c.in-Some-date_in_year-2.ensures
 
 pub returns-2 : goal.returns-2
 returns-2 c =
@@ -29,6 +33,7 @@ returns-2 c =
     elim (cases_lt end 10000) [
       | inl lt ↦
           let last : end ≡ c.args.year + 401 = omega (arith, c.min-last.ensures) in
-          no_date_later s low c.args.year (place 10000 0 0) (omega arith) (subst (λ (y : ℕ). HasNoDate s low (place y 0 0)) last gap)
+          no_date_later s low c.args.year (place 10000 0 0) (omega arith)
+          (subst (λ (y : ℕ). HasNoDate s low (place y 0 0)) last gap)
       | inr ge ↦ λ d year is found above below. gap d year is found above (omega arith)
     ]

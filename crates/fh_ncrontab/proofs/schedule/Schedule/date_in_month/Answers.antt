@@ -9,14 +9,17 @@ use Rattle.fh_ncrontab.proofs.schedule.Schedule.date_in_month.Goals as goal
 pub returns-then-has_day : goal.returns-then-has_day
 returns-then-has_day c =
     let date = c.in-Some-date_of.ensures.value in
-    let next : IsNextIn c.args.self.now.day c.loop-day.from (Some c.in-Some-date_of.date.day) = rw date.2 c.in-Some.ensures.least in
-    first_in_month _ _ _ _ _ _ c.requires.month.1 c.loop-day.invariant.0 date.0 date.1 c.requires.in_set c.loop-day.invariant.2 next (both_right _ _ (sym c.has_day.ensures ∙ c.if-has_day.true))
+    let next : IsNextIn c.args.self.now.day c.loop-day.from (Some c.in-Some-date_of.date.day) =
+    rw date.2 c.in-Some.ensures.least in
+    first_in_month _ _ _ _ _ _ c.requires.month.1 c.loop-day.invariant.0 date.0 date.1 c.requires.in_set
+    c.loop-day.invariant.2 next (both_right _ _ (sym c.has_day.ensures ∙ c.if-has_day.true))
 
 pub loop-day-preserved : goal.loop-day-preserved
 loop-day-preserved c =
     let date = c.in-Some-date_of.ensures.value in
     let small : c.in-Some.day ≤ 31 = (c.in-Some.ensures.within _ c.in-Some.ensures.least.1).1 in
-    let gap : HasNoDate c.args.self.now (place c.args.year c.args.month c.args.day) (place c.args.year c.args.month c.in-Some-date_of.date.day) =
+    let gap : HasNoDate c.args.self.now (place c.args.year c.args.month c.args.day)
+    (place c.args.year c.args.month c.in-Some-date_of.date.day) =
     rw date.2 (no_date_before _ _ _ _ _ _ c.requires.month.1 small c.loop-day.invariant.2 c.in-Some.ensures.least) in
     let other : ¬ (holds c.args.self.now.weekday ((weekday_of c.in-Some-date_of.date + 1) % 7) ≡ true) = λ yes.
     let in_set : holds c.args.self.now.day c.in-Some-date_of.date.day ≡ true = rw date.2 c.in-Some.ensures.least.1 in
@@ -30,4 +33,5 @@ loop-day-preserved c =
 
 pub returns-in_default-date_of : goal.returns-in_default-date_of
 returns-in_default-date_of c =
-    no_date_past _ _ _ _ _ _ c.requires.month.1 c.loop-day.invariant.2 c.in-Some.ensures.least c.in_default-date_of.ensures.none
+    no_date_past _ _ _ _ _ _ c.requires.month.1 c.loop-day.invariant.2 c.in-Some.ensures.least
+    c.in_default-date_of.ensures.none

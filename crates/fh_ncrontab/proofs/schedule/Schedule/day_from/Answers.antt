@@ -11,12 +11,14 @@ returns-in_default-clause-least c k from is =
 
 pub returns-in_default-date_from-clause-least : goal.returns-in_default-date_from-clause-least
 returns-in_default-date_from-clause-least c =
-    day_none _ c.in-Some.start _ c.in-Some.ensures.value (rw (← c.year_number.ensures.value) c.in_default-date_from.ensures)
+    day_none _ c.in-Some.start _ c.in-Some.ensures.value
+    (rw (← c.year_number.ensures.value) c.in_default-date_from.ensures)
 
 least_day : (c : goal.After-day_number) → IsLeastFrom (DayIn c.args.self.now) c.args.day (Some c.day_number.result)
 least_day c =
     let start = c.in-Some.start in
-    let first : IsFirstDate c.args.self.now (place (unsigned_abs start.year) start.month start.day) (place 10000 0 0) c.in-Some-date_from.date = rw (← c.year_number.ensures.value) c.in-Some-date_from.ensures in
+    let first : IsFirstDate c.args.self.now (place (unsigned_abs start.year) start.month start.day) (place 10000 0 0)
+    c.in-Some-date_from.date = rw (← c.year_number.ensures.value) c.in-Some-date_from.ensures in
     rw c.day_number.ensures (day_found _ start c.in-Some-date_from.date _ _ c.in-Some.ensures.value first)
 
 pub returns-clause-least : goal.returns-clause-least

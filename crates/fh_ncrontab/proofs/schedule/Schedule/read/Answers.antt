@@ -7,11 +7,14 @@ use Rattle.fh_ncrontab.proofs.schedule.Schedule.read.Goals as goal
 use Rattle.fh_ncrontab.proofs.schedule.Schedule.read.Goals.{else-given-ne5-via-then-given-ne5+else-given-ne6, else-given-ne5-via-else-given-ne5}
 
 pub returns-then-given-ne6 : goal.returns-then-given-ne6
-returns-then-given-ne6 c = by_count c.args.text.now c.count_words-given.result c.count_words-given.ensures c.if-given-ne5.true c.if-given-ne6.true
+returns-then-given-ne6 c =
+    by_count c.args.text.now c.count_words-given.result c.count_words-given.ensures c.if-given-ne5.true
+    c.if-given-ne6.true
 
 pub returns-in_err-schedule : goal.returns-in_err-schedule
 returns-in_err-schedule c =
-    let count : is_count (length (words c.args.text.now)) ≡ true = ap is_count (sym c.count_words-given.ensures) ∙ elim c.else-given-ne5.branch [
+    let count : is_count (length (words c.args.text.now)) ≡ true = ap is_count (sym c.count_words-given.ensures)
+    ∙ elim c.else-given-ne5.branch [
       | else-given-ne5-via-then-given-ne5+else-given-ne6 w ↦ count_six c.count_words-given.result w.if-given-ne6.false
       | else-given-ne5-via-else-given-ne5 w ↦ count_five c.count_words-given.result w.if-given-ne5.false
     ] in
@@ -20,18 +23,22 @@ returns-in_err-schedule c =
 
 pub returns-then-is_none : goal.returns-then-is_none
 returns-then-is_none c =
-    let count : is_count (length (words c.args.text.now)) ≡ true = ap is_count (sym c.count_words-given.ensures) ∙ elim c.else-given-ne5.branch [
+    let count : is_count (length (words c.args.text.now)) ≡ true = ap is_count (sym c.count_words-given.ensures)
+    ∙ elim c.else-given-ne5.branch [
       | else-given-ne5-via-then-given-ne5+else-given-ne6 w ↦ count_six c.count_words-given.result w.if-given-ne6.false
       | else-given-ne5-via-else-given-ne5 w ↦ count_five c.count_words-given.result w.if-given-ne5.false
     ] in
-    by_seconds c.args.text.now c.in_ok-schedule.schedule false count c.in_ok-schedule.ensures.faultless c.in_ok-schedule.ensures.sets
+    by_seconds c.args.text.now c.in_ok-schedule.schedule false count c.in_ok-schedule.ensures.faultless
+    c.in_ok-schedule.ensures.sets
     (ap is_some (sym c.first_from.ensures) ∙ c.if-is_none.ensures)
 
 pub returns : goal.returns
 returns c =
-    let count : is_count (length (words c.args.text.now)) ≡ true = ap is_count (sym c.count_words-given.ensures) ∙ elim c.else-given-ne5.branch [
+    let count : is_count (length (words c.args.text.now)) ≡ true = ap is_count (sym c.count_words-given.ensures)
+    ∙ elim c.else-given-ne5.branch [
       | else-given-ne5-via-then-given-ne5+else-given-ne6 w ↦ count_six c.count_words-given.result w.if-given-ne6.false
       | else-given-ne5-via-else-given-ne5 w ↦ count_five c.count_words-given.result w.if-given-ne5.false
     ] in
-    by_seconds c.args.text.now c.in_ok-schedule.schedule true count c.in_ok-schedule.ensures.faultless c.in_ok-schedule.ensures.sets
+    by_seconds c.args.text.now c.in_ok-schedule.schedule true count c.in_ok-schedule.ensures.faultless
+    c.in_ok-schedule.ensures.sets
     (ap is_some (sym c.first_from.ensures) ∙ c.if-is_none.ensures)
