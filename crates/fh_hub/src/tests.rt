@@ -79,58 +79,6 @@ fn mounted<'d>(alloc: Global, disk: &'d mut MemoryDisk) -> Result<Hub<'d, Memory
     }
 }
 
-#[test]
-fn each_kind_of_step_is_answered_and_replayed(rt: HostRuntime) -> Result<(), Fail> {
-    let alloc = rt.alloc();
-    let queue = || Text::from_str(alloc, "orders");
-    let update = Command::Update {
-        queue: queue()?,
-        number: 1,
-        receipt: 2,
-        hold: 60,
-        text: Some(Text::from_str(alloc, "ho")?),
-    };
-    let delete = Command::Delete {
-        queue: queue()?,
-        number: 1,
-        receipt: 3,
-    };
-    let peek = Command::Peek {
-        queue: queue()?,
-        count: 32,
-    };
-    let steps: [(u64, Command, &str); 11] = [
-        (9000, make(alloc)?, "ok"),
-        (0, make(alloc)?, "quiet there"),
-        (5000, put(alloc, "hi")?, "ok 1 1"),
-        (0, take(alloc)?, "ok 1 1:2:1:hi"),
-        (0, take(alloc)?, "quiet empty"),
-        (0, update, "ok 3"),
-        (0, Command::Locate { number: 1 }, "is held orders 69000"),
-        (0, delete, "ok"),
-        (0, put(alloc, "b")?, "ok 2 4"),
-        (0, peek, "is 1 2:0:b"),
-        (0, Command::Clear { queue: queue()? }, "ok 1"),
-    ];
-    let mut disk = disk_of(alloc, b"", 999)?;
-    let mut hub = mounted(alloc, &mut disk)?;
-    for (now, command, expected) in &steps {
-        assert_eq!(rt; answer(alloc, &mut hub, command, *now)?.as_str(), *expected);
-    }
-    assert_eq!(rt; hub.history().len(), 7);
-    hub.close();
-    let mut again = disk_of(alloc, disk.bytes(), 999)?;
-    let hub = mounted(alloc, &mut again)?;
-    assert_eq!(rt; (hub.history().len(), hub.history().is_empty()), (7, false));
-    let first = [
-        0, 0, 0, 0, 0, 0, 0x23, 0x28, 1, 0, 0, 0, 6, b'o', b'r', b'd', b'e', b'r', b's',
-    ];
-    assert_eq!(rt; hub.history().entry(0), Some(first.as_slice()));
-    assert_eq!(rt; hub.history().entry(7), None);
-    hub.close();
-    Ok(())
-}
-
 // Puts a message and takes it at the moment 1000.
 fn hold_one<J: Disk>(alloc: Global, hub: &mut Hub<'_, J>) -> Result<(), Fail> {
     expect(alloc, hub, make(alloc)?, 1000, "ok")?;
@@ -151,24 +99,6 @@ fn places_of_messages(rt: HostRuntime) -> Result<(), Fail> {
     let unborn = hub.place_of(2, 0);
     assert!(rt; matches!(unborn, Place::Unknown));
     hub.close();
-    Ok(())
-}
-
-#[test]
-fn steps_that_record_nothing_make_no_call(rt: HostRuntime) -> Result<(), Fail> {
-    let alloc = rt.alloc();
-    let mut disk = disk_of(alloc, b"", 99)?;
-    let mut hub = mounted(alloc, &mut disk)?;
-    expect(alloc, &mut hub, make(alloc)?, 0, "ok")?;
-    expect(alloc, &mut hub, make(alloc)?, 0, "quiet there")?;
-    expect(alloc, &mut hub, take(alloc)?, 0, "quiet empty")?;
-    let locate = Command::Locate { number: 1 };
-    expect(alloc, &mut hub, locate, 0, "is unknown")?;
-    let late = 253402300800000;
-    expect(alloc, &mut hub, make(alloc)?, late, "no 1 MomentTooLate")?;
-    let disk = hub.close();
-    // A mount with its write and its two syncs, and the four calls of one append.
-    assert_eq!(rt; disk.calls().len(), 7);
     Ok(())
 }
 
