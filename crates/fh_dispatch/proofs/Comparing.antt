@@ -22,7 +22,14 @@ own_flag : (b : Bool) → beq b b ≡ true
 own_flag b = (booleans_Decides b b).1 refl
 
 same_as_itself : (one : FunctionSettings) → same_settings one one ≡ true
-same_as_itself (Queue q b t l r s) = rw (own_name q, own_number b, own_number t, own_number l, own_number r, own_number s) refl
+same_as_itself (Queue q b t l r s) = rw (
+  own_name q,
+  own_number b,
+  own_number t,
+  own_number l,
+  own_number r,
+  own_number s,
+) refl
 same_as_itself (Blob b t l r s) = rw (own_number b, own_number t, own_number l, own_number r, own_number s) refl
 same_as_itself (Timer ms u w s) = rw (own_name ms, own_flag u, own_flag w, own_number s) refl
 
@@ -63,4 +70,8 @@ equal_where_same (Timer ms u w s) (Timer masks startup monitor singleton) is =
 equal_where_same one other is = cc
 
 pub compared : ComparesSettings
-compared one other = (equal_where_same one other, λ is. subst (λ (o : FunctionSettings). same_settings one o ≡ true) is (same_as_itself one))
+compared one other = (
+  equal_where_same one other,
+  λ is. subst (λ (o : FunctionSettings). same_settings one o ≡ true) is
+      (same_as_itself one),
+)

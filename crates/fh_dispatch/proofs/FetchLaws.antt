@@ -22,7 +22,8 @@ module _ (part : WorkPart) (others : Others) (name : List ℕ) (m : ℕ) (after 
   told_by : (trigger : Trigger) (taken : Judged QueuePart QueueDone)
       → queue_outcome.outcome others.queues (batch_of trigger) m ≡ taken
       → made_by part (fetching_by trigger.function taken) ≡ Makes after answer
-      → (next : QueuePart) (given : QueueDone) → queue_outcome.outcome others.queues (batch_of trigger) m ≡ Makes next given
+      → (next : QueuePart) (given : QueueDone) → queue_outcome.outcome others.queues (batch_of trigger) m
+      ≡ Makes next given
       → answer ≡ done.Told (Fetched (map fetched_job (items_in given)))
   told_by trigger (Refuses rule) takes is next given takes_so = absurd (cc)
   told_by trigger (Quiets quiet) takes is next given takes_so = absurd (cc)

@@ -101,12 +101,14 @@ trigger-named part name trigger is = by_found (function_of name part.functions) 
 module _ (part : WorkPart) where
   jobs-set : (name : List ℕ) (settings : FunctionSettings) (f : ℕ)
       → jobs_of f (after_set part name settings).ready
-      ≡ jobs_of f (if gets_other_trigger part name settings then without_jobs_of (number_for part name) part.ready else part.ready)
+      ≡ jobs_of f (if gets_other_trigger part name settings then without_jobs_of (number_for part name)
+      part.ready else part.ready)
   jobs-set name settings f =
       ap (jobs_of f) (ready-set (function_for part name settings) part (gets_other_trigger part name settings))
 
   jobs-ready : (function : ℕ) (run : TimerRun) (f : ℕ)
-      → jobs_of f (by_acts part (AddJob (job_for function run) ∷ [])).ready ≡ jobs_of f (with_job (job_for function run) part.ready)
+      → jobs_of f (by_acts part (AddJob (job_for function run) ∷ [])).ready
+      ≡ jobs_of f (with_job (job_for function run) part.ready)
   jobs-ready function run f = ap (jobs_of f) (ready-job part (job_for function run))
 
   begun : HasJobsAsAsked part 0 Session (by_acts part (BeginSession ∷ [])) done.Nothing
@@ -127,7 +129,8 @@ module _ (part : WorkPart) where
   job_ways : Ways (λ ask acts answer. HasJobsAsAsked part 0 ask (by_acts part acts) answer) part
   job_ways = record {
     configures = λ name settings fits.
-        jobs-set name settings (number_for part name) ∙ own (number_for part name) (gets_other_trigger part name settings);
+        jobs-set name settings (number_for part name) ∙ own (number_for part name)
+        (gets_other_trigger part name settings);
     readies = λ function run.
         jobs-ready function run function
         ∙ jobs_of-with_own function (job_for function run) part.ready (own_number function);
@@ -137,7 +140,8 @@ module _ (part : WorkPart) where
   }
     where
       own : (f : ℕ) (drops : Bool)
-          → jobs_of f (if drops then without_jobs_of f part.ready else part.ready) ≡ (if drops then [] else jobs_of f part.ready)
+          → jobs_of f (if drops then without_jobs_of f part.ready else part.ready)
+          ≡ (if drops then [] else jobs_of f part.ready)
       own f true = jobs_of-without_own f f part.ready (own_number f)
       own f false = refl
 
@@ -192,7 +196,8 @@ keeps_one_run part others ask m after answer h is finds f one = by_test (is_abou
         → runs_in f after.ready ≤ 1
     about (Configure name settings) jobs none same =
         by_trigger (gets_other_trigger part name settings)
-        (ap (λ js. length (runs js)) (subst (λ (g : ℕ). jobs_of g after.ready ≡ (if gets_other_trigger part name settings then [] else jobs_of g part.ready)) (eqb-true _ _ same) jobs))
+        (ap (λ js. length (runs js)) (subst (λ (g : ℕ). jobs_of g after.ready
+        ≡ (if gets_other_trigger part name settings then [] else jobs_of g part.ready)) (eqb-true _ _ same) jobs))
       where
         by_trigger : (drops : Bool) → runs_in f after.ready ≡ length (runs (if drops then [] else jobs_of f part.ready))
             → runs_in f after.ready ≤ 1
@@ -200,10 +205,13 @@ keeps_one_run part others ask m after answer h is finds f one = by_test (is_abou
         by_trigger false as_before = omega (arith, as_before, one)
     about (Ready function run) jobs none same =
         let own : jobs_of f after.ready ≡ jobs_of f part.ready ++ job_for function run ∷ [] =
-        subst (λ (g : ℕ). jobs_of g after.ready ≡ jobs_of g part.ready ++ job_for function run ∷ []) (eqb-true _ _ same) jobs in
-        let idle : is_busy f part.ready ≡ false = subst (λ (g : ℕ). is_busy g part.ready ≡ false) (eqb-true _ _ same) none in
+        subst (λ (g : ℕ). jobs_of g after.ready ≡ jobs_of g part.ready ++ job_for function run ∷ [])
+        (eqb-true _ _ same) jobs in
+        let idle : is_busy f part.ready ≡ false = subst (λ (g : ℕ). is_busy g part.ready ≡ false) (eqb-true _ _ same)
+        none in
         let before : jobs_of f part.ready ≡ [] = nothing_in (jobs_of f part.ready) (grind (arith, nat_tests, idle)) in
-        let all = ap (λ js. length (runs js)) (own ∙ ap (λ (js : List ReadyJob). js ++ job_for function run ∷ []) before) in
+        let all = ap (λ js. length (runs js)) (own ∙ ap (λ (js : List ReadyJob). js ++ job_for function run ∷ [])
+        before) in
         omega (arith, all)
       where
         nothing_in : (js : List ReadyJob) → length js ≡ 0 → js ≡ []
@@ -211,9 +219,12 @@ keeps_one_run part others ask m after answer h is finds f one = by_test (is_abou
         nothing_in (job ∷ js) is = absurd (cc)
     about Session jobs none same = let all = ap (λ (js : List ReadyJob). runs_in f js) jobs.0 in omega (arith, all)
     about (Fetch name) jobs none same =
-        let own = subst (λ (g : ℕ). jobs_of g after.ready ≡ jobs_of g part.ready ++ jobs_told g answer) (eqb-true _ _ same) jobs in
-        let all = ap runs own ∙ filter-append (λ (job : ReadyJob). is_run job.job) (jobs_of f part.ready) (jobs_told f answer)
-        ∙ ap (λ (js : List ReadyJob). runs (jobs_of f part.ready) ++ js) (no_runs f (fetched_in answer)) ∙ append-nil (runs (jobs_of f part.ready)) in
+        let own = subst (λ (g : ℕ). jobs_of g after.ready ≡ jobs_of g part.ready ++ jobs_told g answer)
+        (eqb-true _ _ same) jobs in
+        let all = ap runs own ∙ filter-append (λ (job : ReadyJob). is_run job.job) (jobs_of f part.ready)
+        (jobs_told f answer)
+        ∙ ap (λ (js : List ReadyJob). runs (jobs_of f part.ready) ++ js) (no_runs f (fetched_in answer))
+        ∙ append-nil (runs (jobs_of f part.ready)) in
         omega (arith, ap length all, one)
     about Nothing jobs none same = absurd cc
 
@@ -257,7 +268,8 @@ brings_no_others part others ask m after answer h is f apart = by_ask ask refl
     kept other = omega (arith, ap length (keeps_other_jobs part others ask m after answer h is f other))
 
     asked : (a : Ask) → ask ≡ a → HasJobsAsAsked part m a after answer
-    asked a same = subst (λ (x : Ask). HasJobsAsAsked part m x after answer) same (jobs_as_asked part others ask m after answer h is)
+    asked a same = subst (λ (x : Ask). HasJobsAsAsked part m x after answer) same
+        (jobs_as_asked part others ask m after answer h is)
 
     unasked : (a : Ask) → ask ≡ a → brings_jobs part f a ≡ false
     unasked a same = sym (ap (brings_jobs part f) same) ∙ apart
@@ -273,7 +285,9 @@ brings_no_others part others ask m after answer h is f apart = by_ask ask refl
         by_test : (own : Bool) → (number_for part name == f) ≡ own → in_work f after.ready ≤ in_work f part.ready
         by_test true is_own =
             by_trigger (gets_other_trigger part name settings)
-            (ap length (subst (λ (g : ℕ). jobs_of g after.ready ≡ (if gets_other_trigger part name settings then [] else jobs_of g part.ready)) (eqb-true _ _ is_own) (asked (Configure name settings) same)))
+            (ap length (subst (λ (g : ℕ). jobs_of g after.ready
+            ≡ (if gets_other_trigger part name settings then [] else jobs_of g part.ready)) (eqb-true _ _ is_own)
+            (asked (Configure name settings) same)))
         by_test false other = kept (ap (is_about part f) same ∙ other)
     by_ask (Ready function run) same = kept (ap (is_about part f) same ∙ unasked (Ready function run) same)
     by_ask (Fetch name) same = kept (ap (is_about part f) same ∙ unasked (Fetch name) same)

@@ -74,10 +74,12 @@ module _ (part : WorkPart) where
         let most = next_after-most part.next_function (number_for part name) in
         let kept = session-set (function_for part name settings) part (gets_other_trigger part name settings) in
         (omega (arith, is, most), omega (arith, kept));
-    readies = λ function run. same_little _ (same-ready part function run) (omega (arith, session-ready (job_for function run)));
+    readies = λ function run. same_little _ (same-ready part function run)
+        (omega (arith, session-ready (job_for function run)));
     sessions = same_little _ (same-session part) (omega (arith, session-begun));
     fetches = λ name trigger found room items few.
-        same_little _ (same-added trigger.function items part) (omega (arith, session-added trigger.function items part));
+        same_little _ (same-added trigger.function items part)
+        (omega (arith, session-added trigger.function items part));
     nothing = (omega arith, omega arith);
   }
 
@@ -121,7 +123,8 @@ asks_as_it_says part others (Configure name settings) =
 
     by_test : (same : Bool) (queue : Option (List ℕ))
         → ((if same then None else made_where_missing others.queues queue) ≡ None)
-        ⊎ ((other : List ℕ) × ((if same then None else made_where_missing others.queues queue) ≡ Some (queues.Make other)))
+        ⊎ ((other : List ℕ) × ((if same then None else made_where_missing others.queues queue)
+        ≡ Some (queues.Make other)))
     by_test true queue = inl refl
     by_test false None = inl refl
     by_test false (Some queue) = by_there queue (has_queue others.queues.queues queue)
@@ -134,11 +137,13 @@ asks_only_to_remove part Nothing = inl refl
 asks_only_to_remove part (Ready function run) = inl refl
 asks_only_to_remove part Session = inl refl
 asks_only_to_remove part (Fetch name) = inl refl
-asks_only_to_remove part (Configure name settings) = by_test (has_other_trigger settings (function_of name part.functions))
+asks_only_to_remove part (Configure name settings) =
+    by_test (has_other_trigger settings (function_of name part.functions))
   where
     by_test : (other : Bool)
         → ((if other then Some (Remove (number_for part name)) else None) ≡ None)
-        ⊎ ((function : ℕ) × ((if other then Some (Remove (number_for part name)) else None) ≡ Some (Remove function)) × (is_configure (Configure name settings) ≡ true))
+        ⊎ ((function : ℕ) × ((if other then Some (Remove (number_for part name)) else None) ≡ Some (Remove function))
+        × (is_configure (Configure name settings) ≡ true))
     by_test true = inr (number_for part name, refl, refl)
     by_test false = inl refl
 
@@ -150,26 +155,35 @@ record HasSame (number : ℕ) (old : FunctionSettings) (timer : FunctionTimer) :
   schedule : before.schedule ≡ timer.schedule
 
 abbrev timer_for : ℕ → List ℕ → Bool → Bool → FunctionTimer
-timer_for number masks startup monitor = record { function = number; schedule = with_masks masks; startup = startup; monitor = monitor }
+timer_for number masks startup monitor =
+    record { function = number; schedule = with_masks masks; startup = startup; monitor = monitor }
 
-pub timer-number : (number : ℕ) (settings : FunctionSettings) (timer : FunctionTimer) → timer_by number settings ≡ Some timer → timer.function ≡ number
+pub timer-number : (number : ℕ) (settings : FunctionSettings) (timer : FunctionTimer)
+    → timer_by number settings ≡ Some timer → timer.function ≡ number
 timer-number number (Timer masks startup monitor singleton) timer is = by_masks (are_masks masks) is
   where
-    by_masks : (good : Bool) → (if good then Some (timer_for number masks startup monitor) else None) ≡ Some timer → timer.function ≡ number
+    by_masks : (good : Bool) → (if good then Some (timer_for number masks startup monitor) else None) ≡ Some timer
+        → timer.function ≡ number
     by_masks false is = absurd (cc)
-    by_masks true is = let same : timer_for number masks startup monitor ≡ timer = cc in ap (λ (t : FunctionTimer). t.function) (sym same)
+    by_masks true is = let same : timer_for number masks startup monitor ≡ timer = cc in
+        ap (λ (t : FunctionTimer). t.function) (sym same)
 timer-number number settings timer is = absurd (cc)
 
-same_timer : (number : ℕ) (old new : FunctionSettings) (timer : FunctionTimer) → same_trigger old new ≡ true → timer_by number new ≡ Some timer → HasSame number old timer
-same_timer number (Timer ms u w s) (Timer masks startup monitor singleton) timer same is = by_masks (are_masks masks) refl is
+same_timer : (number : ℕ) (old new : FunctionSettings) (timer : FunctionTimer) → same_trigger old new ≡ true
+    → timer_by number new ≡ Some timer → HasSame number old timer
+same_timer number (Timer ms u w s) (Timer masks startup monitor singleton) timer same is =
+    by_masks (are_masks masks) refl is
   where
-    by_masks : (good : Bool) → are_masks masks ≡ good → (if good then Some (timer_for number masks startup monitor) else None) ≡ Some timer → HasSame number (Timer ms u w s) timer
+    by_masks : (good : Bool) → are_masks masks ≡ good →
+        (if good then Some (timer_for number masks startup monitor) else None) ≡ Some timer
+        → HasSame number (Timer ms u w s) timer
     by_masks false good is = absurd (cc)
     by_masks true good is =
         let timer_is : timer_for number masks startup monitor ≡ timer = cc in
         record {
           before = timer_for number masks u w;
-          there = ap (λ (ks : List ℕ). timer_by number (Timer ks u w s)) (same_name ms masks same) ∙ ap (λ b. if b then Some (timer_for number masks u w) else None) good;
+          there = ap (λ (ks : List ℕ). timer_by number (Timer ks u w s)) (same_name ms masks same)
+              ∙ ap (λ b. if b then Some (timer_for number masks u w) else None) good;
           function = ap (λ (t : FunctionTimer). t.function) timer_is;
           schedule = ap (λ (t : FunctionTimer). t.schedule) timer_is;
         }
@@ -182,14 +196,23 @@ module _ (part : WorkPart) where
   unchanged x timer is = record { before = timer; there = is; function = refl; schedule = refl }
 
   abbrev Timed : List ℕ → FunctionSettings → List ℕ → FunctionTimer → Type 0
-  Timed name settings x timer = HasTimer part x timer ⊎ ((timer.function ≡ part.next_function) ⊎ (asks_timers part (Configure name settings) ≡ Some (Remove timer.function)))
+  Timed name settings x timer = HasTimer part x timer
+      ⊎ ((timer.function ≡ part.next_function) ⊎
+      (asks_timers part (Configure name settings) ≡ Some (Remove timer.function)))
 
-  of_old : (name : List ℕ) (settings : FunctionSettings) (timer : FunctionTimer) (function : Function) (same : Bool) → function_of name part.functions ≡ Some function → same_trigger function.settings settings ≡ same
+  of_old : (name : List ℕ) (settings : FunctionSettings) (timer : FunctionTimer) (function : Function) (same : Bool)
+      → function_of name part.functions ≡ Some function → same_trigger function.settings settings ≡ same
       → timer_by function.number settings ≡ Some timer → Timed name settings name timer
   unfolding asks_timers
   of_old name settings timer function true found same is =
       let old = same_timer function.number function.settings settings timer same is in
-      inl (record { before = old.before; there = ap timer_found found ∙ old.there; function = old.function; schedule = old.schedule })
+      inl (record {
+        before = old.before;
+        there = ap timer_found found ∙ old.there;
+        function = old.function;
+        schedule =
+            old.schedule;
+      })
   of_old name settings timer function false found same is =
       inr (inr (
       ap (λ f. configuring_timers part settings f) found
@@ -197,21 +220,27 @@ module _ (part : WorkPart) where
       ∙ ap (λ n. Some (Remove n)) (sym (timer-number function.number settings timer is))
       ))
 
-  of_found : (name : List ℕ) (settings : FunctionSettings) (timer : FunctionTimer) (found : Option Function) → function_of name part.functions ≡ found
+  of_found : (name : List ℕ) (settings : FunctionSettings) (timer : FunctionTimer) (found : Option Function)
+      → function_of name part.functions ≡ found
       → timer_by (number_or part.next_function found) settings ≡ Some timer → Timed name settings name timer
   of_found name settings timer None found is = inr (inl (timer-number part.next_function settings timer is))
-  of_found name settings timer (Some function) found is = of_old name settings timer function (same_trigger function.settings settings) found refl is
+  of_found name settings timer (Some function) found is =
+      of_old name settings timer function (same_trigger function.settings settings) found refl is
 
-  of_named : (name : List ℕ) (settings : FunctionSettings) (x : List ℕ) (timer : FunctionTimer) (same : Bool) → bytes_eq name x ≡ same
-      → timer_found (if same then Some (function_for part name settings) else function_of x part.functions) ≡ Some timer → Timed name settings x timer
+  of_named : (name : List ℕ) (settings : FunctionSettings) (x : List ℕ) (timer : FunctionTimer) (same : Bool)
+      → bytes_eq name x ≡ same
+      → timer_found (if same then Some (function_for part name settings) else function_of x part.functions)
+      ≡ Some timer → Timed name settings x timer
   of_named name settings x timer true same is =
-      subst (λ (n : List ℕ). Timed name settings n timer) (same_name name x same) (of_found name settings timer (function_of name part.functions) refl is)
+      subst (λ (n : List ℕ). Timed name settings n timer) (same_name name x same)
+      (of_found name settings timer (function_of name part.functions) refl is)
   of_named name settings x timer false apart is = inl (unchanged x timer is)
 
   timer_ways : Ways (λ ask acts answer. KeepsTimers part 0 ask (by_acts part acts) answer) part
   timer_ways = ways_by_functions (λ ask after answer. KeepsTimers part 0 ask after answer) part
       (λ name settings fits x timer is.
-      of_named name settings x timer (bytes_eq name x) refl (sym (ap timer_found (function-after_set part name settings x)) ∙ is))
+      of_named name settings x timer (bytes_eq name x) refl
+      (sym (ap timer_found (function-after_set part name settings x)) ∙ is))
       (λ ask after answer plain same x timer is. inl (unchanged x timer (sym (ap (timer_of x) same.functions) ∙ is)))
 
 pub keeps_timers : OfEachAsk KeepsTimers
@@ -232,12 +261,14 @@ module _ (part : WorkPart) where
       (λ ask after answer plain same x number is. same_numbers part after same x ∙ is)
     where
       kept : (name : List ℕ) (settings : FunctionSettings) → settings_rule settings ≡ None
-          → KeepsNumbers part 0 (Configure name settings) (after_set part name settings) (done.Configured (number_for part name))
+          → KeepsNumbers part 0 (Configure name settings) (after_set part name settings)
+          (done.Configured (number_for part name))
       kept name settings fits x number is = numbers_after part name settings x ∙ by_test (bytes_eq name x) refl
         where
           by_test : (b : Bool) → bytes_eq name x ≡ b
               → (if b then Some (number_for part name) else number_of part x) ≡ Some number
-          by_test true same = ap (λ n. Some n) (number_for-known part name number (ap (number_of part) (same_name name x same) ∙ is))
+          by_test true same = ap (λ n. Some n) (number_for-known part name number
+              (ap (number_of part) (same_name name x same) ∙ is))
           by_test false apart = is
 
 pub numbers_kept : OfEachAsk KeepsNumbers
@@ -250,26 +281,41 @@ numbers_kept part others ask m after answer h is =
 module _ (part : WorkPart) (h : IsWhole part) where
   turn_ways : Ways (λ ask acts answer. GivesNumbersInTurn part 0 ask (by_acts part acts) answer) part
   turn_ways = ways_by_functions (λ ask after answer. GivesNumbersInTurn part 0 ask after answer) part
-      (λ name settings fits. record { new = λ x number none is. is_new name settings x number none is; stays = λ x number known is. is_old name settings x number known is })
+      (λ name settings fits. record {
+        new = λ x number none is. is_new name settings x number none is;
+        stays =
+            λ x number known is. is_old name settings x number known is;
+      })
       (λ ask after answer plain same. record {
         new = λ x number none is. absurd (cc (none, same_numbers part after same x, is));
         stays = λ x number known is. same.next;
       })
     where
-      is_new : (name : List ℕ) (settings : FunctionSettings) (x : List ℕ) (number : ℕ) → number_of part x ≡ None → number_of (after_set part name settings) x ≡ Some number → (number ≡ part.next_function) × ((after_set part name settings).next_function ≡ part.next_function + 1)
-      is_new name settings x number none is = by_test (bytes_eq name x) refl (sym (numbers_after part name settings x) ∙ is)
+      is_new : (name : List ℕ) (settings : FunctionSettings) (x : List ℕ) (number : ℕ) → number_of part x ≡ None
+          → number_of (after_set part name settings) x ≡ Some number
+          → (number ≡ part.next_function) × ((after_set part name settings).next_function ≡ part.next_function + 1)
+      is_new name settings x number none is = by_test (bytes_eq name x) refl
+          (sym (numbers_after part name settings x) ∙ is)
         where
-          by_test : (b : Bool) → bytes_eq name x ≡ b → (if b then Some (number_for part name) else number_of part x) ≡ Some number → (number ≡ part.next_function) × ((after_set part name settings).next_function ≡ part.next_function + 1)
+          by_test : (b : Bool) → bytes_eq name x ≡ b → (if b then Some (number_for part name) else number_of part x)
+              ≡ Some number → (number ≡ part.next_function) ×
+              ((after_set part name settings).next_function ≡ part.next_function + 1)
           by_test true same gives =
               let next = number_for-new part name (ap (number_of part) (same_name name x same) ∙ none) in
-              let given : number_for part name ≡ number = cc in
-              (sym given ∙ next, next-after_set part name settings ∙ next_after-next part.next_function (number_for part name) next)
+              let given : number_for part name ≡ number = cc in (
+                sym given ∙ next,
+                next-after_set part name settings
+                    ∙ next_after-next part.next_function (number_for part name) next,
+              )
           by_test false apart gives = absurd (cc (none, gives))
 
-      is_old : (name : List ℕ) (settings : FunctionSettings) (x : List ℕ) (number : ℕ) → number_of part x ≡ Some number → bytes_eq name x ≡ true → (after_set part name settings).next_function ≡ part.next_function
+      is_old : (name : List ℕ) (settings : FunctionSettings) (x : List ℕ) (number : ℕ) → number_of part x ≡ Some number
+          → bytes_eq name x ≡ true → (after_set part name settings).next_function ≡ part.next_function
       is_old name settings x number known same =
           let mine : number_of part name ≡ Some number = ap (number_of part) (same_name name x same) ∙ known in
-          let before : number_for part name < part.next_function = subst (λ (n : ℕ). n < part.next_function) (sym (number_for-known part name number mine)) (h.given name number mine).1 in
+          let before : number_for part name < part.next_function =
+          subst (λ (n : ℕ). n < part.next_function) (sym (number_for-known part name number mine))
+          (h.given name number mine).1 in
           next-after_set part name settings ∙ next_after-given part.next_function (number_for part name) before
 
 pub numbers_in_turn : OfEachAsk GivesNumbersInTurn
@@ -319,11 +365,19 @@ keeps_unnamed part others ask m after answer h is =
 -- ---- whole parts
 
 pub Whole-none : IsWhole no_work
-Whole-none = record { begun = omega arith; given = λ name number is. cc; apart = λ name other number mine theirs. cc; scheduled = λ name. tt }
+Whole-none = record {
+  begun = omega arith;
+  given = λ name number is. cc;
+  apart =
+      λ name other number mine theirs. cc;
+  scheduled = λ name. tt;
+}
 
-module _ (part : WorkPart) (h : IsWhole part) (name : List ℕ) (settings : FunctionSettings) (fits : settings_rule settings ≡ None) where
+module _ (part : WorkPart) (h : IsWhole part) (name : List ℕ) (settings : FunctionSettings)
+    (fits : settings_rule settings ≡ None) where
   -- a number that is given is one that was given, or the next one
-  was_given : (known : Option ℕ) → number_of part name ≡ known → (1 ≤ number_for part name) × (number_for part name < (after_set part name settings).next_function)
+  was_given : (known : Option ℕ) → number_of part name ≡ known
+      → (1 ≤ number_for part name) × (number_for part name < (after_set part name settings).next_function)
   was_given None is =
       let next = number_for-new part name is in
       let now = next-after_set part name settings ∙ next_after-next part.next_function (number_for part name) next in
@@ -336,7 +390,8 @@ module _ (part : WorkPart) (h : IsWhole part) (name : List ℕ) (settings : Func
       (omega (arith, mine, range.0), omega (arith, mine, range.1, least, now))
 
   -- no other function has the number that is given
-  is_own : (known : Option ℕ) → number_of part name ≡ known → (x : List ℕ) → number_of part x ≡ Some (number_for part name) → name ≡ x
+  is_own : (known : Option ℕ) → number_of part name ≡ known → (x : List ℕ)
+      → number_of part x ≡ Some (number_for part name) → name ≡ x
   is_own None is x theirs =
       let next = number_for-new part name is in
       let before = (h.given x (number_for part name) theirs).1 in
@@ -345,38 +400,50 @@ module _ (part : WorkPart) (h : IsWhole part) (name : List ℕ) (settings : Func
       let mine = number_for-known part name number is in
       h.apart name x number is (theirs ∙ ap (λ n. Some n) mine)
 
-  set_given : (x : List ℕ) (number : ℕ) → number_of (after_set part name settings) x ≡ Some number → (1 ≤ number) × (number < (after_set part name settings).next_function)
+  set_given : (x : List ℕ) (number : ℕ) → number_of (after_set part name settings) x ≡ Some number
+      → (1 ≤ number) × (number < (after_set part name settings).next_function)
   set_given x number is = by_test (bytes_eq name x) (sym (numbers_after part name settings x) ∙ is)
     where
-      by_test : (b : Bool) → (if b then Some (number_for part name) else number_of part x) ≡ Some number → (1 ≤ number) × (number < (after_set part name settings).next_function)
+      by_test : (b : Bool) → (if b then Some (number_for part name) else number_of part x) ≡ Some number
+          → (1 ≤ number) × (number < (after_set part name settings).next_function)
       by_test true gives =
           let given : number_for part name ≡ number = cc in
-          subst (λ (n : ℕ). (1 ≤ n) × (n < (after_set part name settings).next_function)) given (was_given (number_of part name) refl)
+          subst (λ (n : ℕ). (1 ≤ n) × (n < (after_set part name settings).next_function)) given
+          (was_given (number_of part name) refl)
       by_test false gives =
           let range = h.given x number gives in
           let least = next_after-least part.next_function (number_for part name) in
           let now = next-after_set part name settings in
           (range.0, omega (arith, range.1, least, now))
 
-  set_apart : (x y : List ℕ) (number : ℕ) → number_of (after_set part name settings) x ≡ Some number → number_of (after_set part name settings) y ≡ Some number → x ≡ y
-  set_apart x y number first second = by_tests (bytes_eq name x) (bytes_eq name y) refl refl (sym (numbers_after part name settings x) ∙ first) (sym (numbers_after part name settings y) ∙ second)
+  set_apart : (x y : List ℕ) (number : ℕ) → number_of (after_set part name settings) x ≡ Some number
+      → number_of (after_set part name settings) y ≡ Some number → x ≡ y
+  set_apart x y number first second = by_tests (bytes_eq name x) (bytes_eq name y) refl refl
+      (sym (numbers_after part name settings x) ∙ first) (sym (numbers_after part name settings y) ∙ second)
     where
-      by_tests : (b d : Bool) → bytes_eq name x ≡ b → bytes_eq name y ≡ d → (if b then Some (number_for part name) else number_of part x) ≡ Some number → (if d then Some (number_for part name) else number_of part y) ≡ Some number → x ≡ y
+      by_tests : (b d : Bool) → bytes_eq name x ≡ b → bytes_eq name y ≡ d
+          → (if b then Some (number_for part name) else number_of part x) ≡ Some number
+          → (if d then Some (number_for part name) else number_of part y) ≡ Some number → x ≡ y
       by_tests true true mine theirs one other = sym (same_name name x mine) ∙ same_name name y theirs
-      by_tests true false mine theirs one other = sym (same_name name x mine) ∙ is_own (number_of part name) refl y (other ∙ sym one)
-      by_tests false true mine theirs one other = sym (is_own (number_of part name) refl x (one ∙ sym other)) ∙ same_name name y theirs
+      by_tests true false mine theirs one other = sym (same_name name x mine)
+          ∙ is_own (number_of part name) refl y (other ∙ sym one)
+      by_tests false true mine theirs one other = sym (is_own (number_of part name) refl x (one ∙ sym other))
+          ∙ same_name name y theirs
       by_tests false false mine theirs one other = h.apart x y number one other
 
-  set_scheduled : (x : List ℕ) → IfSome (function_of x (after_set part name settings).functions) (λ function. HasSchedule function.settings)
+  set_scheduled : (x : List ℕ) → IfSome (function_of x (after_set part name settings).functions)
+      (λ function. HasSchedule function.settings)
   set_scheduled x = rw (function-after_set part name settings x) (by_test (bytes_eq name x))
     where
-      by_test : (b : Bool) → IfSome (if b then Some (function_for part name settings) else function_of x part.functions) (λ function. HasSchedule function.settings)
+      by_test : (b : Bool) → IfSome (if b then Some (function_for part name settings)
+          else function_of x part.functions) (λ function. HasSchedule function.settings)
       by_test true = is_scheduled settings fits
       by_test false = h.scheduled x
 
   Whole-set : IsWhole (after_set part name settings)
   Whole-set = record {
-    begun = let least = next_after-least part.next_function (number_for part name) in let now = next-after_set part name settings in omega (arith, h.begun, least, now);
+    begun = let least = next_after-least part.next_function (number_for part name) in let now =
+        next-after_set part name settings in omega (arith, h.begun, least, now);
     given = set_given;
     apart = set_apart;
     scheduled = set_scheduled;
@@ -396,6 +463,7 @@ Whole-same part h after same = record {
 
 pub Whole-outcome : OfEachAsk StaysWhole
 Whole-outcome part others ask m after answer h is =
-    let ways = ways_by_functions (λ ask after answer. IsWhole after) part (Whole-set part h) (λ ask after answer plain same. Whole-same part h after same) in
+    let ways = ways_by_functions (λ ask after answer. IsWhole after) part (Whole-set part h)
+    (λ ask after answer plain same. Whole-same part h after same) in
     let by = by_ways _ part ways others m after answer ask is in
     subst IsWhole by.made by.holds

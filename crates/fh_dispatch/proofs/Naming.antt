@@ -37,9 +37,15 @@ own_name a = (bytes_eq-Decides a a).1 refl
 pub own_number : (n : ℕ) → (n == n) ≡ true
 own_number n = grind (arith, nat_tests)
 
-pub function_of-set : (function : Function) (part : WorkPart) (x : List ℕ) → function_of x (with_function function part).functions ≡ (if bytes_eq function.name x then Some function else function_of x part.functions)
+pub function_of-set : (function : Function) (part : WorkPart) (x : List ℕ)
+    → function_of x (with_function function part).functions
+    ≡ (if bytes_eq function.name x then Some function else function_of x part.functions)
 function_of-set function part x = by_test (bytes_eq function.name x) refl
   where
-    by_test : (b : Bool) → bytes_eq function.name x ≡ b → function_of x (with_function function part).functions ≡ (if b then Some function else function_of x part.functions)
-    by_test true is = row_at-with_same (λ (a b : Function). by_name b.name a) total function (named x) part.functions (equal (slice_cmp nat_cmp function.name x) (is_eq-slice_cmp function.name x ∙ is))
-    by_test false is = row_at-with_other (λ (a b : Function). by_name b.name a) total function (named x) part.functions (is_eq-slice_cmp function.name x ∙ is)
+    by_test : (b : Bool) → bytes_eq function.name x ≡ b
+        → function_of x (with_function function part).functions
+        ≡ (if b then Some function else function_of x part.functions)
+    by_test true is = row_at-with_same (λ (a b : Function). by_name b.name a) total function (named x) part.functions
+        (equal (slice_cmp nat_cmp function.name x) (is_eq-slice_cmp function.name x ∙ is))
+    by_test false is = row_at-with_other (λ (a b : Function). by_name b.name a) total function (named x) part.functions
+        (is_eq-slice_cmp function.name x ∙ is)

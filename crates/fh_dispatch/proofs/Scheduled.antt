@@ -10,7 +10,8 @@ use Rattle.fh_ncrontab.specs.Sets.{is_mask, all_numbers}
 use Rattle.fh_dispatch.specs.Rules.{first_broken, mask_rule, settings_rule}
 use Rattle.fh_dispatch.specs.Laws.{HasSchedule}
 
-none_broken : (rule : Option Rule) (rules : List (Option Rule)) → first_broken (rule ∷ rules) ≡ None → (rule ≡ None) × (first_broken rules ≡ None)
+none_broken : (rule : Option Rule) (rules : List (Option Rule)) → first_broken (rule ∷ rules) ≡ None
+    → (rule ≡ None) × (first_broken rules ≡ None)
 none_broken None rules none = (refl, none)
 none_broken (Some rule) rules none = absurd cc
 
@@ -21,7 +22,8 @@ mask_passes low high mask none = by_test (is_mask low high mask) none
     by_test true is = refl
     by_test false is = absurd cc
 
-masks_pass : (masks : List ℕ) (startup monitor : Bool) (singleton : ℕ) → settings_rule (Timer masks startup monitor singleton) ≡ None → are_masks masks ≡ true
+masks_pass : (masks : List ℕ) (startup monitor : Bool) (singleton : ℕ)
+    → settings_rule (Timer masks startup monitor singleton) ≡ None → are_masks masks ≡ true
 masks_pass masks startup monitor singleton fits =
     let second = none_broken (mask_rule 0 59 (slice_index masks 0)) _ (none_broken _ [] fits).0 in
     let minute = none_broken (mask_rule 0 59 (slice_index masks 1)) _ second.1 in

@@ -49,7 +49,8 @@ job_for function run = record { function = function; job = jobs.Timer run }
 
 -- what holds of each way in which an ask changes something
 pub record Ways (P : Ask → List Act → WorkDone → Type 0) (part : WorkPart) : Type 0 where
-  pub configures : (name : List ℕ) (settings : FunctionSettings) → settings_rule settings ≡ None → P (Configure name settings) (sets part name settings) (done.Configured (number_for part name))
+  pub configures : (name : List ℕ) (settings : FunctionSettings) → settings_rule settings ≡ None
+      → P (Configure name settings) (sets part name settings) (done.Configured (number_for part name))
   pub readies : (function : ℕ) (run : TimerRun) → P (Ready function run) (AddJob (job_for function run) ∷ []) done.Ready
   pub sessions : P Session (BeginSession ∷ []) (done.Told (replies.SessionBegun (part.session + 1)))
   pub fetches :
@@ -58,22 +59,27 @@ pub record Ways (P : Ask → List Act → WorkDone → Type 0) (part : WorkPart)
       → P (Fetch name) (adding trigger.function items) (done.Told (replies.Fetched (map fetched_job items)))
   pub nothing : P Nothing [] done.Nothing
 
-pub record Way (P : Ask → List Act → WorkDone → Type 0) (part : WorkPart) (ask : Ask) (after : WorkPart) (answer : WorkDone) : Type 0 where
+pub record Way (P : Ask → List Act → WorkDone → Type 0) (part : WorkPart) (ask : Ask) (after : WorkPart)
+    (answer : WorkDone) : Type 0 where
   pub acts : List Act
   pub made : by_acts part acts ≡ after
   pub holds : P ask acts answer
 
-module _ (P : Ask → List Act → WorkDone → Type 0) (part : WorkPart) (ways : Ways P part) (others : Others) (m : ℕ) (after_ask : WorkPart)
+module _ (P : Ask → List Act → WorkDone → Type 0) (part : WorkPart) (ways : Ways P part) (others : Others) (m : ℕ)
+    (after_ask : WorkPart)
     (answer : WorkDone) where
-  accepted : (rule : Option Rule) (judged : Acting) → made_by part (unless_refused rule judged) ≡ Makes after_ask answer → (rule ≡ None) × (made_by part judged ≡ Makes after_ask answer)
+  accepted : (rule : Option Rule) (judged : Acting) → made_by part (unless_refused rule judged)
+      ≡ Makes after_ask answer → (rule ≡ None) × (made_by part judged ≡ Makes after_ask answer)
   accepted None judged is = (refl, is)
   accepted (Some rule) judged is = absurd (cc)
 
-  loud : (quiet : Bool) (judged : Acting) → made_by part (if quiet then Quiets done.Same else judged) ≡ Makes after_ask answer → made_by part judged ≡ Makes after_ask answer
+  loud : (quiet : Bool) (judged : Acting) → made_by part (if quiet then Quiets done.Same else judged)
+      ≡ Makes after_ask answer → made_by part judged ≡ Makes after_ask answer
   loud true judged is = absurd (cc)
   loud false judged is = is
 
-  way : (ask : Ask) (acts : List Act) (given : WorkDone) → P ask acts given → made_by part (Makes acts given) ≡ Makes after_ask answer → Way P part ask after_ask answer
+  way : (ask : Ask) (acts : List Act) (given : WorkDone) → P ask acts given
+      → made_by part (Makes acts given) ≡ Makes after_ask answer → Way P part ask after_ask answer
   way ask acts given holds is =
       let made : by_acts part acts ≡ after_ask = cc in
       let same : given ≡ answer = cc in
@@ -88,14 +94,16 @@ module _ (P : Ask → List Act → WorkDone → Type 0) (part : WorkPart) (ways 
   by_taken name trigger found room (Quiets given) takes is = absurd (cc)
   by_taken name trigger found room (Makes after given) takes is =
       way (Fetch name) _ _
-      (ways.fetches name trigger found room (items_in given) (takes_few others.queues (batch_of trigger) m after given takes))
+      (ways.fetches name trigger found room (items_in given)
+      (takes_few others.queues (batch_of trigger) m after given takes))
       is
 
   by_room : (name : List ℕ) (trigger : Trigger) → trigger_of name part.functions ≡ Some trigger
       → (full : Bool) → is_full part trigger ≡ full
       → made_by part
       (if full then busy (in_work trigger.function part.ready)
-      else fetching_by trigger.function (queue_outcome.outcome others.queues (batch_of trigger) m)) ≡ Makes after_ask answer
+      else fetching_by trigger.function (queue_outcome.outcome others.queues (batch_of trigger) m))
+      ≡ Makes after_ask answer
       → Way P part (Fetch name) after_ask answer
   by_room name trigger found true room is = absurd (cc)
   by_room name trigger found false room is =
@@ -125,17 +133,21 @@ module _ (P : Ask → List Act → WorkDone → Type 0) (part : WorkPart) (ways 
 
 -- ---- the number of a function that is configured
 
-pub number_for-known : (part : WorkPart) (name : List ℕ) (number : ℕ) → number_of part name ≡ Some number → number_for part name ≡ number
+pub number_for-known : (part : WorkPart) (name : List ℕ) (number : ℕ) → number_of part name ≡ Some number
+    → number_for part name ≡ number
 number_for-known part name number is = by_found (function_of name part.functions) is
   where
-    by_found : (found : Option Function) → option_map (λ (f : Function). f.number) found ≡ Some number → number_or part.next_function found ≡ number
+    by_found : (found : Option Function) → option_map (λ (f : Function). f.number) found ≡ Some number
+        → number_or part.next_function found ≡ number
     by_found None is = cc
     by_found (Some function) is = cc
 
-pub number_for-new : (part : WorkPart) (name : List ℕ) → number_of part name ≡ None → number_for part name ≡ part.next_function
+pub number_for-new : (part : WorkPart) (name : List ℕ) → number_of part name ≡ None
+    → number_for part name ≡ part.next_function
 number_for-new part name is = by_found (function_of name part.functions) is
   where
-    by_found : (found : Option Function) → option_map (λ (f : Function). f.number) found ≡ None → number_or part.next_function found ≡ part.next_function
+    by_found : (found : Option Function) → option_map (λ (f : Function). f.number) found ≡ None
+        → number_or part.next_function found ≡ part.next_function
     by_found None is = refl
     by_found (Some function) is = cc
 
@@ -162,12 +174,14 @@ next_after-least next number = by_test (number == next)
 
 -- a function that is set, with its jobs dropped or not
 module _ (function : Function) (part : WorkPart) where
-  functions-set : (drops : Bool) → (by_acts part (Set function ∷ dropping function.number drops)).functions ≡ (with_function function part).functions
+  functions-set : (drops : Bool) → (by_acts part (Set function ∷ dropping function.number drops)).functions
+      ≡ (with_function function part).functions
   unfolding acted
   functions-set true = refl
   functions-set false = refl
 
-  next-set : (drops : Bool) → (by_acts part (Set function ∷ dropping function.number drops)).next_function ≡ next_after part.next_function function.number
+  next-set : (drops : Bool) → (by_acts part (Set function ∷ dropping function.number drops)).next_function
+      ≡ next_after part.next_function function.number
   unfolding acted
   next-set true = refl
   next-set false = refl
@@ -178,7 +192,8 @@ module _ (function : Function) (part : WorkPart) where
   session-set true = refl
   session-set false = refl
 
-  pub ready-set : (drops : Bool) → (by_acts part (Set function ∷ dropping function.number drops)).ready ≡ (if drops then without_jobs_of function.number part.ready else part.ready)
+  pub ready-set : (drops : Bool) → (by_acts part (Set function ∷ dropping function.number drops)).ready
+      ≡ (if drops then without_jobs_of function.number part.ready else part.ready)
   unfolding acted
   ready-set true = refl
   ready-set false = refl
@@ -187,19 +202,27 @@ module _ (part : WorkPart) where
   abbrev pub after_set : List ℕ → FunctionSettings → WorkPart
   after_set name settings = by_acts part (sets part name settings)
 
-  pub function-after_set : (name : List ℕ) (settings : FunctionSettings) (x : List ℕ) → function_of x (after_set name settings).functions ≡ (if bytes_eq name x then Some (function_for part name settings) else function_of x part.functions)
+  pub function-after_set : (name : List ℕ) (settings : FunctionSettings) (x : List ℕ)
+      → function_of x (after_set name settings).functions
+      ≡ (if bytes_eq name x then Some (function_for part name settings) else function_of x part.functions)
   function-after_set name settings x =
       ap (function_of x) (functions-set (function_for part name settings) part (gets_other_trigger part name settings))
       ∙ function_of-set (function_for part name settings) part x
 
-  pub numbers_after : (name : List ℕ) (settings : FunctionSettings) (x : List ℕ) → number_of (after_set name settings) x ≡ (if bytes_eq name x then Some (number_for part name) else number_of part x)
-  numbers_after name settings x = ap (option_map (λ (f : Function). f.number)) (function-after_set name settings x) ∙ by_test (bytes_eq name x)
+  pub numbers_after : (name : List ℕ) (settings : FunctionSettings) (x : List ℕ)
+      → number_of (after_set name settings) x ≡
+      (if bytes_eq name x then Some (number_for part name) else number_of part x)
+  numbers_after name settings x = ap (option_map (λ (f : Function). f.number)) (function-after_set name settings x)
+      ∙ by_test (bytes_eq name x)
     where
-      by_test : (b : Bool) → option_map (λ (f : Function). f.number) (if b then Some (function_for part name settings) else function_of x part.functions) ≡ (if b then Some (number_for part name) else number_of part x)
+      by_test : (b : Bool) → option_map (λ (f : Function). f.number)
+          (if b then Some (function_for part name settings) else function_of x part.functions)
+          ≡ (if b then Some (number_for part name) else number_of part x)
       by_test true = refl
       by_test false = refl
 
-  pub next-after_set : (name : List ℕ) (settings : FunctionSettings) → (after_set name settings).next_function ≡ next_after part.next_function (number_for part name)
+  pub next-after_set : (name : List ℕ) (settings : FunctionSettings)
+      → (after_set name settings).next_function ≡ next_after part.next_function (number_for part name)
   next-after_set name settings = next-set (function_for part name settings) part (gets_other_trigger part name settings)
 
 pub next_after-most : (next number : ℕ) → next_after next number ≤ next + 1

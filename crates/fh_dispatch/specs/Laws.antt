@@ -68,7 +68,8 @@ is_named x ask = false
 
 -- a function that had no number gets the next one, and then the next one is the one behind that; where the function
 -- has a number, the next one stays
-pub record GivesNumbersInTurn (part : WorkPart) (m : ℕ) (ask : Ask) (after : WorkPart) (answer : WorkDone) : Type 0 where
+pub record GivesNumbersInTurn (part : WorkPart) (m : ℕ) (ask : Ask) (after : WorkPart) (answer : WorkDone) :
+    Type 0 where
   pub new :
       (name : List ℕ) (number : ℕ)
       → number_of part name ≡ None → number_of after name ≡ Some number
@@ -110,7 +111,8 @@ jobs_told function answer =
 abbrev pub HasJobsAsAsked : WorkPart → ℕ → Ask → WorkPart → WorkDone → Type 0
 HasJobsAsAsked part m (Configure name settings) after answer =
     jobs_of (number_for part name) after.ready
-    ≡ (if has_other_trigger settings (function_of name part.functions) then [] else jobs_of (number_for part name) part.ready)
+    ≡ (if has_other_trigger settings (function_of name part.functions) then [] else jobs_of (number_for part name)
+    part.ready)
 HasJobsAsAsked part m (Ready function run) after answer =
     jobs_of function after.ready ≡ jobs_of function part.ready ++ record { function = function; job = OfTimer run } ∷ []
 HasJobsAsAsked part m Session after answer = (after.ready ≡ []) × (after.session ≡ part.session + 1)
@@ -219,7 +221,8 @@ pub record HasTimer (part : WorkPart) (name : List ℕ) (timer : FunctionTimer) 
 abbrev pub KeepsTimers : WorkPart → ℕ → Ask → WorkPart → WorkDone → Type 0
 KeepsTimers part m ask after answer =
     (name : List ℕ) (timer : FunctionTimer) → timer_of name after.functions ≡ Some timer
-    → HasTimer part name timer ⊎ ((timer.function ≡ part.next_function) ⊎ (asks_timers part ask ≡ Some (Remove timer.function)))
+    → HasTimer part name timer ⊎ ((timer.function ≡ part.next_function)
+    ⊎ (asks_timers part ask ≡ Some (Remove timer.function)))
 
 -- settings count as the same exactly where they are equal
 abbrev pub ComparesSettings : Type 0
@@ -231,7 +234,8 @@ pub record IsFetch (part : WorkPart) (others : Others) (name : List ℕ) (m : �
   pub found : trigger_of name part.functions ≡ Some trigger
   pub asks : asks_queues part others (Fetch name) ≡ Some (batch_of trigger)
   pub told :
-      (taken : QueuePart) (given : QueueDone) → queue_outcome.outcome others.queues (batch_of trigger) m ≡ Makes taken given
+      (taken : QueuePart) (given : QueueDone) → queue_outcome.outcome others.queues (batch_of trigger) m
+      ≡ Makes taken given
       → answer ≡ done.Told (Fetched (map fetched_job (items_in given)))
 
 abbrev pub FetchesAsTold : Type 0

@@ -47,21 +47,25 @@ few_versions parts (Tick function) m = omega arith
 few_versions parts command m = omega arith
 
 -- a version more stays within a gate that has gone on
-pub versions_within : (parts after : Parts) (done : Done) (gate size : ℕ) → IsOutcome parts after done → parts.blobs.next_version ≤ gate
+pub versions_within : (parts after : Parts) (done : Done) (gate size : ℕ) → IsOutcome parts after done
+    → parts.blobs.next_version ≤ gate
     → after.blobs.next_version ≤ gate_behind gate size
 versions_within parts after done gate size is within =
     let told = asks_as_told parts is.command is.moment is.asks is.asked in
     let did = (all_make parts is.asks is.moment after done is.is).blobs in
     let moves = moves_versions parts.blobs is.asks.blobs is.moment after.blobs done.blobs did in
-    let few : new_versions is.asks.blobs ≤ 1 = subst (λ (a : Asks). new_versions a.blobs ≤ 1) (sym told) (few_versions parts is.command is.moment) in
+    let few : new_versions is.asks.blobs ≤ 1 = subst (λ (a : Asks). new_versions a.blobs ≤ 1) (sym told)
+    (few_versions parts is.command is.moment) in
     omega (arith, moves, few, within)
 
 -- what was asked of the queues is plain
-pub plain_outcome : (parts after : Parts) (done : Done) (is : IsOutcome parts after done) → is_plain (asked_queues parts is.asks) ≡ true
+pub plain_outcome : (parts after : Parts) (done : Done) (is : IsOutcome parts after done)
+    → is_plain (asked_queues parts is.asks) ≡ true
 plain_outcome parts after done is =
     let told = asks_as_told parts is.command is.moment is.asks is.asked in
     let did = (all_make parts is.asks is.moment after done is.is).work in
-    let made = subst (λ (a : Asks). work_outcome.outcome parts.work (others_of parts) a.work is.moment ≡ Makes after.work done.work) told did in
+    let made = subst (λ (a : Asks). work_outcome.outcome parts.work (others_of parts) a.work is.moment
+    ≡ Makes after.work done.work) told did in
     subst (λ (a : Asks). is_plain (asked_queues parts a) ≡ true) (sym told)
     (plain_asked parts is.command (asked_queues parts (asks_in parts is.command is.moment))
     (asked_of_queues parts is.command is.moment after.work done.work made))
@@ -71,10 +75,12 @@ pub record WorksWithin (after : Parts) (gate size : ℕ) : Type 0 where
   pub functions : after.work.next_function ≤ gate_behind gate size
   pub sessions : after.work.session ≤ gate_behind gate size
 
-pub works_within : (parts after : Parts) (done : Done) (gate size : ℕ) → IsOutcome parts after done → parts.work.next_function ≤ gate
+pub works_within : (parts after : Parts) (done : Done) (gate size : ℕ) → IsOutcome parts after done
+    → parts.work.next_function ≤ gate
     → parts.work.session ≤ gate → WorksWithin after gate size
 works_within parts after done gate size is functions sessions =
-    let moves = moves_numbers parts.work (others_of parts) is.asks.work is.moment after.work done.work (all_make parts is.asks is.moment after done is.is).work in
+    let moves = moves_numbers parts.work (others_of parts) is.asks.work is.moment after.work done.work
+    (all_make parts is.asks is.moment after done is.is).work in
     record { functions = omega (arith, moves.0, functions); sessions = omega (arith, moves.1, sessions) }
 
 -- the gate stands behind the header
@@ -85,6 +91,7 @@ begins s bounded = omega (arith, bounded.place)
 pub goes_within : (gate size : ℕ) → full_at gate size ≡ None → gate_behind gate size ≤ most_bytes
 goes_within gate size room = by_test (nat_lt most_bytes (gate + 6 + size)) refl room
   where
-    by_test : (full : Bool) → nat_lt most_bytes (gate + 6 + size) ≡ full → (if full then Some gate else None) ≡ None → gate_behind gate size ≤ most_bytes
+    by_test : (full : Bool) → nat_lt most_bytes (gate + 6 + size) ≡ full → (if full then Some gate else None) ≡ None
+        → gate_behind gate size ≤ most_bytes
     by_test true test is = absurd (cc)
     by_test false test is = grind (arith, nat_tests, test)

@@ -40,7 +40,8 @@ listed_as_lists n (done.Completed number receipt count) = refl
 listed_as_lists n (done.Poisoned copy receipt) = refl
 listed_as_lists n done.Swept = refl
 
-touches_as_told : (parts : Parts) (m : ℕ) (command : Command) (reply : Reply) (ask : Ask) (answer : QueueDone) (row : Message)
+touches_as_told : (parts : Parts) (m : ℕ) (command : Command) (reply : Reply) (ask : Ask) (answer : QueueDone)
+    (row : Message)
     → IsAskedOf parts command ask → lists row.number reply ≡ lists_item row.number (items_in answer)
     → touches m ask answer row ≡ (signs_of parts m command reply).acts_on row
 touches_as_told parts m (Fetch function) reply ask answer row asked listed =
@@ -57,18 +58,21 @@ touches_as_told parts m command reply ask answer row asked listed =
 pub stands_seen : (n : ℕ) (part : QueuePart) (row : Message) → row_of n part.rows ≡ Some row → seen n part ≡ Stands row
 stands_seen n part row found = ap (λ r. seen_by r (end_of n part.ends)) found
 
-guards : (events : List Event) (w : World) (command : Command) (now : ℕ) (new : World) (reply : Reply) → Told events w → Made w command now new reply → GuardsMessages (event w command now reply new)
+guards : (events : List Event) (w : World) (command : Command) (now : ℕ) (new : World) (reply : Reply) → Told events w
+    → Made w command now new reply → GuardsMessages (event w command now reply new)
 guards events w command now new reply h made =
     let m = effective_moment w now in
     let part = w.parts.queues in
     record {
       untouched = λ row found alive untouched.
           row_seen row.number new.parts.queues row
-          (keeps_untouched part made.ask m new.parts.queues made.done.queues h.whole made.queues row (stands_seen row.number part row found) alive
+          (keeps_untouched part made.ask m new.parts.queues made.done.queues h.whole made.queues row
+          (stands_seen row.number part row found) alive
           (touches_as_told w.parts m command reply made.ask made.done.queues row made.asked
           ((reply_as_told events w command now new reply h made).lists row.number) ∙ untouched));
       rises = λ n before later was stands.
-          raises_receipts part made.ask m new.parts.queues made.done.queues h.whole made.queues n before later (stands_seen n part before was) (stands_seen n new.parts.queues later stands);
+          raises_receipts part made.ask m new.parts.queues made.done.queues h.whole made.queues n before later
+          (stands_seen n part before was) (stands_seen n new.parts.queues later stands);
     }
 
 abbrev Guarded : List Event → World → Type 0

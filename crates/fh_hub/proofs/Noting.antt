@@ -39,12 +39,15 @@ use Rattle.fh_hub.proofs.Told.{Told, no_row, stored_row, unborn_now, told_kept, 
 -- ---- receipts
 
 -- what is noted now is what gets its receipt
-version_is : (found : _) (version : ℕ) → option_map (λ (row : BlobRow). row.version) found ≡ Some version → version_or_none found ≡ version
+version_is : (found : _) (version : ℕ) → option_map (λ (row : BlobRow). row.version) found ≡ Some version
+    → version_or_none found ≡ version
 version_is None version is = absurd (cc)
 version_is (Some row) version is = cc
 
-makes_as_noted : (f : ℕ) (c b : List ℕ) (v : ℕ) (parts : Parts) (command : Command) (m : ℕ) (after : BlobPart) (answer : BlobDone)
-    → blob_laws.answers (blob_ask_in parts command) answer ≡ true → blob_laws.NotesTheCurrentVersion parts.blobs m (blob_ask_in parts command) after answer
+makes_as_noted : (f : ℕ) (c b : List ℕ) (v : ℕ) (parts : Parts) (command : Command) (m : ℕ) (after : BlobPart)
+    (answer : BlobDone)
+    → blob_laws.answers (blob_ask_in parts command) answer ≡ true
+    → blob_laws.NotesTheCurrentVersion parts.blobs m (blob_ask_in parts command) after answer
     → blob_laws.makes f c b v (blob_ask_in parts command) answer ≡ notes f c b v parts command
 makes_as_noted f c b v parts (Note function container blob) m after (blobs.NowNoted version) answers current =
     ap (λ n. (number_in parts.work function == f) && (bytes_eq container c && (bytes_eq blob b && (n == v))))
@@ -81,12 +84,15 @@ receipts_kept events w command now new reply h made = record {
     one_more false true fresh = refl
     one_more false false fresh = refl
 
-    noted : (f : ℕ) (c b : List ℕ) (v : ℕ) → times_noted f c b v (events ++ event w command now reply new ∷ []) ≡ one_if (has_receipt new.parts.blobs f c b v)
+    noted : (f : ℕ) (c b : List ℕ) (v : ℕ) → times_noted f c b v (events ++ event w command now reply new ∷ [])
+        ≡ one_if (has_receipt new.parts.blobs f c b v)
     noted f c b v =
         let once = made_once w.parts.blobs ask m new.parts.blobs answer h.whole made.blobs in
         let current = notes_current w.parts.blobs ask m new.parts.blobs answer h.whole made.blobs in
-        let same = makes_as_noted f c b v w.parts command m new.parts.blobs answer (answers_the_ask w.parts.blobs ask m new.parts.blobs answer made.blobs) current in
-        sum_by_push (λ (e : Event). one_if (notes f c b v e.before.parts e.command)) events (event w command now reply new)
+        let same = makes_as_noted f c b v w.parts command m new.parts.blobs answer
+        (answers_the_ask w.parts.blobs ask m new.parts.blobs answer made.blobs) current in
+        sum_by_push (λ (e : Event). one_if (notes f c b v e.before.parts e.command)) events
+        (event w command now reply new)
         ∙ ap (λ k. k + one_if (notes f c b v w.parts command)) (h.noted f c b v)
         ∙ ap (λ n. one_if (has_receipt w.parts.blobs f c b v) + one_if n) (sym same)
         ∙ one_more (has_receipt w.parts.blobs f c b v) (blob_laws.makes f c b v ask answer) (once.new f c b v)
@@ -96,15 +102,23 @@ receipts : (history : List Entry) → Receipts (trace history) (replay history)
 receipts history = kept_by_all Receipts receipts_kept (record { whole = Whole-none; noted = λ f c b v. refl }) history
 
 pub noted_once : (history : List Entry) (f : ℕ) (c b : List ℕ) (v : ℕ) → IsNotedOnce history f c b v
-noted_once history f c b v = by_test (has_receipt (replay history).parts.blobs f c b v) refl ((receipts history).noted f c b v)
+noted_once history f c b v = by_test (has_receipt (replay history).parts.blobs f c b v) refl
+    ((receipts history).noted f c b v)
   where
-    by_test : (there : Bool) → has_receipt (replay history).parts.blobs f c b v ≡ there → times_noted f c b v (trace history) ≡ one_if there → IsNotedOnce history f c b v
+    by_test : (there : Bool) → has_receipt (replay history).parts.blobs f c b v ≡ there
+        → times_noted f c b v (trace history) ≡ one_if there → IsNotedOnce history f c b v
     by_test true is times = record { once = omega (arith, times); receipt = (λ one. is, λ there. times) }
-    by_test false is times = record { once = omega (arith, times); receipt = (λ one. absurd (omega (arith, one, times)), λ there. absurd (cc (is, there))) }
+    by_test false is times = record {
+      once = omega (arith, times);
+      receipt =
+          (λ one. absurd (omega (arith, one, times)), λ there. absurd (cc (is, there)));
+    }
 
 -- ---- messages
 
-replied_to_note : (answer : Done) (number receipt version : ℕ) → answer.queues ≡ done.Stored number receipt → answer.blobs ≡ blobs.NowNoted version → answer.timers ≡ timers.Nothing → answer.work ≡ work.Nothing → reply_of answer ≡ replies.Noted number
+replied_to_note : (answer : Done) (number receipt version : ℕ) → answer.queues ≡ done.Stored number receipt
+    → answer.blobs ≡ blobs.NowNoted version → answer.timers ≡ timers.Nothing → answer.work ≡ work.Nothing
+    → reply_of answer ≡ replies.Noted number
 replied_to_note answer number receipt version queues blobs timers work = rw (queues, blobs, timers, work) refl
 
 record IsStored (answer : QueueDone) : Type 0 where
@@ -112,19 +126,23 @@ record IsStored (answer : QueueDone) : Type 0 where
   receipt : ℕ
   is : answer ≡ done.Stored number receipt
 
-stored : (ask : queues.Ask) (queue : List ℕ) (text : List ℕ) (about : _) (answer : QueueDone) → ask ≡ queues.Put queue 0 None text about → queue_laws.answers ask answer ≡ true → IsStored answer
-stored ask queue text about (done.Stored number receipt) asks answers = record { number = number; receipt = receipt; is = refl }
+stored : (ask : queues.Ask) (queue : List ℕ) (text : List ℕ) (about : _) (answer : QueueDone)
+    → ask ≡ queues.Put queue 0 None text about → queue_laws.answers ask answer ≡ true → IsStored answer
+stored ask queue text about (done.Stored number receipt) asks answers =
+    record { number = number; receipt = receipt; is = refl }
 stored ask queue text about answer asks answers = absurd (cc (asks, answers))
 
 record IsNowNoted (answer : BlobDone) : Type 0 where
   version : ℕ
   is : answer ≡ blobs.NowNoted version
 
-now_noted : (function : ℕ) (container blob : List ℕ) (answer : BlobDone) → blob_laws.answers (blob_asks.Note function container blob) answer ≡ true → IsNowNoted answer
+now_noted : (function : ℕ) (container blob : List ℕ) (answer : BlobDone)
+    → blob_laws.answers (blob_asks.Note function container blob) answer ≡ true → IsNowNoted answer
 now_noted function container blob (blobs.NowNoted version) answers = record { version = version; is = refl }
 now_noted function container blob answer answers = absurd (cc)
 
-noted_as : (events : List Event) (w : World) (command : Command) (now : ℕ) (new : World) (reply : Reply) → Told events w → (made : Made w command now new reply) → NotesByMessage (event w command now reply new)
+noted_as : (events : List Event) (w : World) (command : Command) (now : ℕ) (new : World) (reply : Reply)
+    → Told events w → (made : Made w command now new reply) → NotesByMessage (event w command now reply new)
 noted_as events w (Note function container blob) now new reply h made =
     let m = effective_moment w now in
     let command = Note function container blob in
@@ -132,13 +150,15 @@ noted_as events w (Note function container blob) now new reply h made =
     let about = Some (blob_as_it_is w.parts.blobs container blob) in
     let asks = asked_plainly w.parts command made.ask refl refl made.asked in
     let put = stored made.ask _ text about made.done.queues asks (queues_answered w command now new reply made) in
-    let noting = now_noted (number_in w.parts.work function) container blob made.done.blobs (answers_the_ask w.parts.blobs (blob_ask_in w.parts command) m new.parts.blobs made.done.blobs made.blobs) in
+    let noting = now_noted (number_in w.parts.work function) container blob made.done.blobs
+    (answers_the_ask w.parts.blobs (blob_ask_in w.parts command) m new.parts.blobs made.done.blobs made.blobs) in
     let told = made.replies ∙ replied_to_note made.done put.number put.receipt noting.version put.is noting.is
     (timers_rest w command now new reply made refl refl) (work_rests w command now new reply made refl refl) in
     subst (NotedAs (event w command now reply new) command) (sym told) (record {
       row = numbered put.number put.receipt (new_message m _ 0 None text about);
       stands = stored_row events w command now new reply h made _ 0 None text about put.number put.receipt asks put.is;
-      new = no_row put.number w.parts.queues Unborn (unborn_now events w command now new reply h made put.number put.receipt put.is) (λ row stands. cc);
+      new = no_row put.number w.parts.queues Unborn
+          (unborn_now events w command now new reply h made put.number put.receipt put.is) (λ row stands. cc);
       queue = refl;
       text = refl;
       about = refl;

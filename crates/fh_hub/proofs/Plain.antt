@@ -40,7 +40,8 @@ plain_in parts (Note function container blob) = refl
 plain_in parts command = refl
 
 -- what the hub asks is plain
-pub plain_asked : (parts : Parts) (command : Command) (ask : queues.Ask) → IsAskedOf parts command ask → is_plain ask ≡ true
+pub plain_asked : (parts : Parts) (command : Command) (ask : queues.Ask) → IsAskedOf parts command ask
+    → is_plain ask ≡ true
 plain_asked parts (Configure function settings) ask asked =
     elim asked [
       | inl is ↦ ap is_plain is
@@ -60,7 +61,8 @@ few_receipts (queues.Renew messages hold) plain = absurd (cc)
 few_receipts ask plain = omega arith
 
 -- it has a plain answer
-pub answers_plainly : (ask : queues.Ask) (answer : QueueDone) → is_plain ask ≡ true → answers ask answer ≡ true → is_plain_answer answer ≡ true
+pub answers_plainly : (ask : queues.Ask) (answer : QueueDone) → is_plain ask ≡ true → answers ask answer ≡ true
+    → is_plain_answer answer ≡ true
 answers_plainly (queues.Release message delay) answer plain is = absurd (cc)
 answers_plainly (queues.Renew messages hold) answer plain is = absurd (cc)
 answers_plainly (queues.Complete invocation message outputs) answer plain is = absurd (cc)
@@ -82,7 +84,8 @@ answers_plainly (queues.Take queue count hold) answer plain is = by_answer answe
     by_answer d is = absurd (cc)
 answers_plainly (queues.Update queue number receipt hold text) answer plain is = by_answer answer is
   where
-    by_answer : (d : QueueDone) → answers (queues.Update queue number receipt hold text) d ≡ true → is_plain_answer d ≡ true
+    by_answer : (d : QueueDone) → answers (queues.Update queue number receipt hold text) d ≡ true
+        → is_plain_answer d ≡ true
     by_answer (done.Updated newest) is = refl
     by_answer d is = absurd (cc)
 answers_plainly (queues.Delete queue number receipt) answer plain is = by_answer answer is

@@ -17,7 +17,8 @@ use Rattle.fh_hub.specs.Asked.{AsksAll, asked}
 use Rattle.fh_hub.specs.World.{World, Refused, judged, full_rule, unless_full, stepped_by, recorded, step, step_at, effective_moment}
 
 -- a command that acts at its own moment
-pub step_is_at : (w : World) (command : Command) (m : ℕ) → m ≤ greatest_moment → w.last ≤ m → step w command m ≡ step_at w command m
+pub step_is_at : (w : World) (command : Command) (m : ℕ) → m ≤ greatest_moment → w.last ≤ m
+    → step w command m ≡ step_at w command m
 unfolding step
 step_is_at w command m early own =
     let first : nat_le m greatest_moment ≡ true = grind (arith, nat_tests, early) in
@@ -25,14 +26,16 @@ step_is_at w command m early own =
     rw (first, same) refl
 
 -- what the stores make is recorded where nothing is too full
-pub made_is_recorded : (w : World) (m size : ℕ) (full : Option Rule) (found : Judged Parts Done) (parts : Parts) (done : Done)
+pub made_is_recorded : (w : World) (m size : ℕ) (full : Option Rule) (found : Judged Parts Done) (parts : Parts)
+    (done : Done)
     → found ≡ judging.Makes parts done → full_rule w.gate size full ≡ None
     → judged w m size full found ≡ recorded w m size parts done
 made_is_recorded w m size full found parts done is fits =
     ap (judged w m size full) is ∙ ap (λ r. unless_full r (recorded w m size parts done)) fits
 
 -- and refused where something is
-pub made_is_refused : (w : World) (m size : ℕ) (full : Option Rule) (found : Judged Parts Done) (parts : Parts) (done : Done) (rule : Rule)
+pub made_is_refused : (w : World) (m size : ℕ) (full : Option Rule) (found : Judged Parts Done) (parts : Parts)
+    (done : Done) (rule : Rule)
     → found ≡ judging.Makes parts done → full_rule w.gate size full ≡ Some rule
     → judged w m size full found ≡ Refused rule
 made_is_refused w m size full found parts done rule is fits =
@@ -52,8 +55,10 @@ pub record Fits (gate size : ℕ) : Type 0 where
 pub fits : (gate size : ℕ) (full : Option Rule) → full_rule gate size full ≡ None → Fits gate size
 fits gate size full is = by_test (nat_lt longest_payload size) refl full (full_at gate size) refl is
   where
-    by_test : (long : Bool) → nat_lt longest_payload size ≡ long → (other : Option Rule) (room : Option ℕ) → full_at gate size ≡ room
-        → first_broken ((if long then Some (TooLarge (min size (2 ^ 64 - 1)) longest_payload) else None) ∷ other ∷ option_map (λ at. JournalFull at) room ∷ []) ≡ None
+    by_test : (long : Bool) → nat_lt longest_payload size ≡ long → (other : Option Rule) (room : Option ℕ)
+        → full_at gate size ≡ room
+        → first_broken ((if long then Some (TooLarge (min size (2 ^ 64 - 1)) longest_payload) else None)
+        ∷ other ∷ option_map (λ at. JournalFull at) room ∷ []) ≡ None
         → Fits gate size
     by_test true test other room roomy is = absurd (cc)
     by_test false test (Some rule) room roomy is = absurd (cc)

@@ -80,10 +80,14 @@ pub record Made (w : World) (command : Command) (now : ℕ) (new : World) (reply
   pub ask : queue_asks.Ask
   pub asked : IsAskedOf w.parts command ask
   pub queues : queues.outcome w.parts.queues ask (effective_moment w now) ≡ judging.Makes new.parts.queues done.queues
-  pub blobs : blobs.outcome w.parts.blobs (blob_ask_in w.parts command) (effective_moment w now) ≡ judging.Makes new.parts.blobs done.blobs
-  pub leases : leases.outcome w.parts.leases (lease_ask command) (effective_moment w now) ≡ judging.Makes new.parts.leases done.leases
-  pub timers : timers.outcome w.parts.timers (asked_timers w.parts (asks_at w command now)) (effective_moment w now) ≡ judging.Makes new.parts.timers done.timers
-  pub work : work.outcome w.parts.work (others_of w.parts) (asks_at w command now).work (effective_moment w now) ≡ judging.Makes new.parts.work done.work
+  pub blobs : blobs.outcome w.parts.blobs (blob_ask_in w.parts command) (effective_moment w now)
+      ≡ judging.Makes new.parts.blobs done.blobs
+  pub leases : leases.outcome w.parts.leases (lease_ask command) (effective_moment w now)
+      ≡ judging.Makes new.parts.leases done.leases
+  pub timers : timers.outcome w.parts.timers (asked_timers w.parts (asks_at w command now)) (effective_moment w now)
+      ≡ judging.Makes new.parts.timers done.timers
+  pub work : work.outcome w.parts.work (others_of w.parts) (asks_at w command now).work (effective_moment w now)
+      ≡ judging.Makes new.parts.work done.work
   pub replies : reply ≡ reply_of done
   pub last : new.last ≡ effective_moment w now
   pub timely : now ≤ greatest_moment
@@ -91,7 +95,8 @@ pub record Made (w : World) (command : Command) (now : ℕ) (new : World) (reply
 -- what is told of a sweep and of a queue that is made is told of what the queues were asked for
 pub as_asked : {A : Type 0} (parts : Parts) (command : Command) (ask : queue_asks.Ask) (of_ask : queue_asks.Ask → A)
     → is_fetch command ≡ false → IsAskedOf parts command ask
-    → ((queue : List ℕ) → of_ask queue_asks.Sweep ≡ of_ask (queue_asks.Make queue)) → of_ask (queue_ask_in parts command) ≡ of_ask ask
+    → ((queue : List ℕ) → of_ask queue_asks.Sweep ≡ of_ask (queue_asks.Make queue))
+    → of_ask (queue_ask_in parts command) ≡ of_ask ask
 as_asked parts (Fetch function) ask of_ask plain is same = absurd (cc)
 as_asked parts (Configure function settings) ask of_ask plain is same =
     elim is [
@@ -104,7 +109,8 @@ differ : {b : Bool} → b ≡ true → b ≡ false → ⊥
 differ holds fails = cc
 
 -- a command that is about no function's queue asks what it says
-pub asked_plainly : (parts : Parts) (command : Command) (ask : queue_asks.Ask) → is_configure command ≡ false → is_fetch command ≡ false
+pub asked_plainly : (parts : Parts) (command : Command) (ask : queue_asks.Ask) → is_configure command ≡ false
+    → is_fetch command ≡ false
     → IsAskedOf parts command ask → ask ≡ queue_ask_in parts command
 asked_plainly parts (Configure function settings) ask plain apart is = absurd (differ refl plain)
 asked_plainly parts (Fetch function) ask plain apart is = absurd (differ refl apart)
@@ -118,25 +124,30 @@ no_run part m = by_judged (timers.outcome part timer_asks.Nothing m) refl
     by_answer timer_done.Nothing is = refl
     by_answer answer is = absurd (cc)
 
-    by_judged : (found : Judged TimerPart TimerDone) → timers.outcome part timer_asks.Nothing m ≡ found → run_made found ≡ None
+    by_judged : (found : Judged TimerPart TimerDone) → timers.outcome part timer_asks.Nothing m ≡ found
+        → run_made found ≡ None
     by_judged (judging.Refuses rule) is = refl
     by_judged (judging.Quiets answer) is = refl
-    by_judged (judging.Makes after answer) is = by_answer answer (timers_answer part timer_asks.Nothing m after answer is)
+    by_judged (judging.Makes after answer) is = by_answer answer
+        (timers_answer part timer_asks.Nothing m after answer is)
 
 -- a command that is about no timer asks of the work what it says
-pub work_asked : (parts : Parts) (command : Command) (m : ℕ) → is_timed command ≡ false → (asks_in parts command m).work ≡ work_ask command
+pub work_asked : (parts : Parts) (command : Command) (m : ℕ) → is_timed command ≡ false
+    → (asks_in parts command m).work ≡ work_ask command
 work_asked parts (Arm function) m plain = absurd (cc)
 work_asked parts (Tick function) m plain = absurd (cc)
 work_asked parts command m plain = refl
 
 -- and one about a timer asks of it at most that a run is made ready
 pub work_timed : (parts : Parts) (command : Command) (m : ℕ) → is_timed command ≡ true
-    → (asks_in parts command m).work ≡ ready_by (function_asked (timer_ask_in parts command)) (run_made (timers.outcome parts.timers (timer_ask_in parts command) m))
+    → (asks_in parts command m).work ≡ ready_by (function_asked (timer_ask_in parts command))
+    (run_made (timers.outcome parts.timers (timer_ask_in parts command) m))
 work_timed parts (Arm function) m timed = refl
 work_timed parts (Tick function) m timed = refl
 work_timed parts command m timed = absurd (cc)
 
-queues_asked : (parts : Parts) (command : Command) (m : ℕ) → (asks_in parts command m).queues ≡ queue_ask_in parts command
+queues_asked : (parts : Parts) (command : Command) (m : ℕ)
+    → (asks_in parts command m).queues ≡ queue_ask_in parts command
 queues_asked parts (Arm function) m = refl
 queues_asked parts (Tick function) m = refl
 queues_asked parts command m = refl
@@ -151,7 +162,8 @@ leases_asked parts (Arm function) m = refl
 leases_asked parts (Tick function) m = refl
 leases_asked parts command m = refl
 
-own_timers_asked : (parts : Parts) (command : Command) (m : ℕ) → (asks_in parts command m).timers ≡ timer_ask_in parts command
+own_timers_asked : (parts : Parts) (command : Command) (m : ℕ)
+    → (asks_in parts command m).timers ≡ timer_ask_in parts command
 own_timers_asked parts (Arm function) m = refl
 own_timers_asked parts (Tick function) m = refl
 own_timers_asked parts command m = refl
@@ -165,12 +177,15 @@ configures_nothing function None is = cc
 configures_nothing function (Some run) is = cc
 
 -- what configures by what it asks of the work configures
-configures_by : (parts : Parts) (command : Command) (m : ℕ) → work_laws.is_configure (asks_in parts command m).work ≡ true → is_configure command ≡ true
+configures_by : (parts : Parts) (command : Command) (m : ℕ)
+    → work_laws.is_configure (asks_in parts command m).work ≡ true → is_configure command ≡ true
 configures_by parts command m is = by_kind (is_timed command) refl
   where
     by_kind : (timed : Bool) → is_timed command ≡ timed → is_configure command ≡ true
-    by_kind false plain = sym (configures command) ∙ ap work_laws.is_configure (sym (work_asked parts command m plain)) ∙ is
-    by_kind true timed = absurd (configures_nothing _ _ (ap work_laws.is_configure (sym (work_timed parts command m timed)) ∙ is))
+    by_kind false plain = sym (configures command) ∙ ap work_laws.is_configure (sym (work_asked parts command m plain))
+        ∙ is
+    by_kind true timed = absurd (configures_nothing _ _
+        (ap work_laws.is_configure (sym (work_timed parts command m timed)) ∙ is))
 
 -- who asks at most that a run be ready asks nothing of the queues
 ready_asks_none : (part : WorkPart) (others : Others) (function : ℕ) (run : Option TimerRun)
@@ -196,9 +211,11 @@ asked_of_queues parts (Tick function) m after answer is =
 asked_of_queues parts Session m after answer is =
     ap (λ ask. unwrap_or ask queue_asks.Sweep) (asks_as_it_says parts.work (others_of parts) work_asks.Session)
 asked_of_queues parts command m after answer is =
-    ap (λ ask. unwrap_or ask (queue_ask_in parts command)) (asks_as_it_says parts.work (others_of parts) work_asks.Nothing)
+    ap (λ ask. unwrap_or ask (queue_ask_in parts command))
+    (asks_as_it_says parts.work (others_of parts) work_asks.Nothing)
 
-pub timer_ask_plain : (parts : Parts) (command : Command) → is_timed command ≡ false → timer_ask_in parts command ≡ timer_asks.Nothing
+pub timer_ask_plain : (parts : Parts) (command : Command) → is_timed command ≡ false
+    → timer_ask_in parts command ≡ timer_asks.Nothing
 timer_ask_plain parts (Arm function) plain = absurd (cc)
 timer_ask_plain parts (Tick function) plain = absurd (cc)
 timer_ask_plain parts command plain = refl
@@ -206,23 +223,32 @@ timer_ask_plain parts command plain = refl
 -- the timers are asked for what the command asks, or to remove the row of a function that it configures
 abbrev pub IsTimerAskOf : Parts → Command → TimerAsk → Type 0
 IsTimerAskOf parts command ask =
-    (ask ≡ timer_ask_in parts command) ⊎ ((function : ℕ) × (ask ≡ timer_asks.Remove function) × (is_configure command ≡ true))
+    (ask ≡ timer_ask_in parts command) ⊎ ((function : ℕ) × (ask ≡ timer_asks.Remove function)
+    × (is_configure command ≡ true))
 
-pub asked_of_timers : (parts : Parts) (command : Command) (m : ℕ) → IsTimerAskOf parts command (asked_timers parts (asks_in parts command m))
+pub asked_of_timers : (parts : Parts) (command : Command) (m : ℕ)
+    → IsTimerAskOf parts command (asked_timers parts (asks_in parts command m))
 asked_of_timers parts command m =
     elim (asks_only_to_remove parts.work (asks_in parts command m).work) [
-      | inl none ↦ inl (ap (λ ask. unwrap_or ask (asks_in parts command m).timers) none ∙ own_timers_asked parts command m)
-      | inr one ↦ inr (one.0, ap (λ ask. unwrap_or ask (asks_in parts command m).timers) one.1, configures_by parts command m one.2)
+      | inl none ↦ inl (ap (λ ask. unwrap_or ask (asks_in parts command m).timers) none
+          ∙ own_timers_asked parts command m)
+      | inr one ↦ inr (
+        one.0,
+        ap (λ ask. unwrap_or ask (asks_in parts command m).timers) one.1,
+        configures_by parts command m one.2,
+      )
     ]
 
-pub timers_asked_plainly : (parts : Parts) (command : Command) (m : ℕ) → is_configure command ≡ false → asked_timers parts (asks_in parts command m) ≡ timer_ask_in parts command
+pub timers_asked_plainly : (parts : Parts) (command : Command) (m : ℕ) → is_configure command ≡ false
+    → asked_timers parts (asks_in parts command m) ≡ timer_ask_in parts command
 timers_asked_plainly parts command m plain =
     elim (asked_of_timers parts command m) [
       | inl is ↦ is
       | inr one ↦ absurd (differ one.2 plain)
     ]
 
-named : (command : Command) (given : Asked) (all : Asks) → unless_misnamed command given ≡ AsksAll all → given ≡ AsksAll all
+named : (command : Command) (given : Asked) (all : Asks) → unless_misnamed command given ≡ AsksAll all
+    → given ≡ AsksAll all
 named command given all is = by_test (has_good_names command) is
   where
     by_test : (good : Bool) → (if good then given else Refuses BadName) ≡ AsksAll all → given ≡ AsksAll all
@@ -241,21 +267,26 @@ gets_nothing (Some row) all is = cc
 same_asks : (all given : Asks) → AsksAll given ≡ AsksAll all → all ≡ given
 same_asks all given is = let same : given ≡ all = cc in sym same
 
-strange_asks_nothing : (known : Bool) (given : Asked) (all : Asks) → unless_strange known given ≡ AsksAll all → given ≡ AsksAll all
+strange_asks_nothing : (known : Bool) (given : Asked) (all : Asks) → unless_strange known given ≡ AsksAll all
+    → given ≡ AsksAll all
 strange_asks_nothing true given all is = is
 strange_asks_nothing false given all is = absurd (cc)
 
-missing_asks_nothing : (found : Option BlobRow) (given : Asked) (all : Asks) → unless_missing found given ≡ AsksAll all → given ≡ AsksAll all
+missing_asks_nothing : (found : Option BlobRow) (given : Asked) (all : Asks) → unless_missing found given ≡ AsksAll all
+    → given ≡ AsksAll all
 missing_asks_nothing None given all is = absurd (cc)
 missing_asks_nothing (Some row) given all is = is
 
-untimed_asks_nothing : (found : Option Timer) (given : Asked) (all : Asks) → unless_untimed found given ≡ AsksAll all → given ≡ AsksAll all
+untimed_asks_nothing : (found : Option Timer) (given : Asked) (all : Asks) → unless_untimed found given ≡ AsksAll all
+    → given ≡ AsksAll all
 untimed_asks_nothing None given all is = absurd (cc)
 untimed_asks_nothing (Some timer) given all is = is
 
-asked_of_command : (parts : Parts) (command : Command) (m : ℕ) (all : Asks) → asked_of parts command m ≡ AsksAll all → all ≡ asks_in parts command m
+asked_of_command : (parts : Parts) (command : Command) (m : ℕ) (all : Asks) → asked_of parts command m ≡ AsksAll all
+    → all ≡ asks_in parts command m
 asked_of_command parts (Peek queue count) m all is = absurd (peeks_nothing (peeked parts.queues queue count m) all is)
-asked_of_command parts (GetBlob container blob) m all is = absurd (gets_nothing (blob_of container blob parts.blobs.blobs) all is)
+asked_of_command parts (GetBlob container blob) m all is =
+    absurd (gets_nothing (blob_of container blob parts.blobs.blobs) all is)
 asked_of_command parts (Locate number) m all is = absurd (cc)
 asked_of_command parts (Note function container blob) m all is =
     same_asks all (asks_in parts (Note function container blob) m)
@@ -264,50 +295,63 @@ asked_of_command parts (Note function container blob) m all is =
 asked_of_command parts (Unnoted function container) m all is =
     absurd (reads_nothing (strange_asks_nothing (works_on_blobs (function_of function parts.work.functions)) _ all is))
   where
-    reads_nothing : Reads (replies.Unnoted (unnoted parts.blobs (number_in parts.work function) container)) ≡ AsksAll all → ⊥
+    reads_nothing : Reads (replies.Unnoted (unnoted parts.blobs (number_in parts.work function) container))
+        ≡ AsksAll all → ⊥
     reads_nothing is = cc
 asked_of_command parts (Arm function) m all is =
-    same_asks all (asks_in parts (Arm function) m) (untimed_asks_nothing (timer_of function parts.work.functions) _ all is)
+    same_asks all (asks_in parts (Arm function) m)
+    (untimed_asks_nothing (timer_of function parts.work.functions) _ all is)
 asked_of_command parts (Tick function) m all is =
-    same_asks all (asks_in parts (Tick function) m) (untimed_asks_nothing (timer_of function parts.work.functions) _ all is)
+    same_asks all (asks_in parts (Tick function) m)
+    (untimed_asks_nothing (timer_of function parts.work.functions) _ all is)
 asked_of_command parts (Begin function high low) m all is = absurd (cc)
 asked_of_command parts (Finish invocation outcome) m all is = absurd (cc)
 asked_of_command parts Renewals m all is = absurd (cc)
 asked_of_command parts command m all is = same_asks all (asks_in parts command m) is
 
 -- what is asked is what the command says
-pub asks_as_told : (parts : Parts) (command : Command) (m : ℕ) (all : Asks) → asked parts command m ≡ AsksAll all → all ≡ asks_in parts command m
+pub asks_as_told : (parts : Parts) (command : Command) (m : ℕ) (all : Asks) → asked parts command m ≡ AsksAll all
+    → all ≡ asks_in parts command m
 unfolding asked
-asks_as_told parts command m all is = asked_of_command parts command m all (named command (asked_of parts command m) all is)
+asks_as_told parts command m all is = asked_of_command parts command m all
+    (named command (asked_of parts command m) all is)
 
 -- what is accepted has good masks
-pub masks_by_asks : (parts : Parts) (command : Command) (m : ℕ) (all : Asks) → asked parts command m ≡ AsksAll all → work_asks.GivesGoodMasks all.work → GivesGoodMasks command
+pub masks_by_asks : (parts : Parts) (command : Command) (m : ℕ) (all : Asks) → asked parts command m ≡ AsksAll all
+    → work_asks.GivesGoodMasks all.work → GivesGoodMasks command
 masks_by_asks parts (Configure function settings) m all is good =
-    subst (λ (a : Asks). work_asks.GivesGoodMasks a.work) (asks_as_told parts (Configure function settings) m all is) good
+    subst (λ (a : Asks). work_asks.GivesGoodMasks a.work) (asks_as_told parts (Configure function settings) m all is)
+    good
 masks_by_asks parts command m all is good = tt
 
 -- and no list that is too long
-pub list_by_asks : (parts : Parts) (command : Command) (m : ℕ) (all : Asks) → asked parts command m ≡ AsksAll all → GivesShortList command
+pub list_by_asks : (parts : Parts) (command : Command) (m : ℕ) (all : Asks) → asked parts command m ≡ AsksAll all
+    → GivesShortList command
 unfolding asked
 list_by_asks parts (Finish invocation outcome) m all is = absurd (cc)
 list_by_asks parts command m all is = tt
 
-module _ (w : World) (command : Command) (now : ℕ) (new : World) (reply : Reply) (in_time : nat_le now greatest_moment ≡ true) where
+module _ (w : World) (command : Command) (now : ℕ) (new : World) (reply : Reply)
+    (in_time : nat_le now greatest_moment ≡ true) where
   abbrev m : ℕ
   m = effective_moment w now
 
-  from_room : (full : Option Rule) (stepped : Stepped) → unless_full full stepped ≡ Recorded new reply → stepped ≡ Recorded new reply
+  from_room : (full : Option Rule) (stepped : Stepped) → unless_full full stepped ≡ Recorded new reply
+      → stepped ≡ Recorded new reply
   from_room None stepped is = is
   from_room (Some rule) stepped is = absurd (cc)
 
-  from_judged : (size : ℕ) (full : Option Rule) (all : Asks) (found : Judged Parts Done) → all ≡ asks_in w.parts command m → outcomes w.parts all m ≡ found → judged w m size full found ≡ Recorded new reply → Made w command now new reply
+  from_judged : (size : ℕ) (full : Option Rule) (all : Asks) (found : Judged Parts Done)
+      → all ≡ asks_in w.parts command m → outcomes w.parts all m ≡ found
+      → judged w m size full found ≡ Recorded new reply → Made w command now new reply
   from_judged size full all (judging.Refuses rule) asking makes is = absurd (cc)
   from_judged size full all (judging.Quiets answer) asking makes is = absurd (cc)
   from_judged size full all (judging.Makes parts answer) asking makes is =
       let stepped : recorded w m size parts answer ≡ Recorded new reply = from_room (full_rule w.gate size full) _ is in
       let new_is : world_with w parts m size ≡ new = cc in
       let reply_is : reply_of answer ≡ reply = cc in
-      let told = ap (λ (a : Asks). outcomes w.parts a m) (sym asking) ∙ makes ∙ ap (λ (x : World). judging.Makes x.parts answer) new_is in
+      let told = ap (λ (a : Asks). outcomes w.parts a m) (sym asking) ∙ makes
+      ∙ ap (λ (x : World). judging.Makes x.parts answer) new_is in
       let did = all_make w.parts (asks_in w.parts command m) m new.parts answer told in
       record {
         done = answer;
@@ -323,19 +367,25 @@ module _ (w : World) (command : Command) (now : ℕ) (new : World) (reply : Repl
         last = sym (ap (λ (x : World). x.last) new_is);
       }
 
-  from_stepped_by : (size : ℕ) (a : Asked) → asked w.parts command m ≡ a → stepped_by w m size a ≡ Recorded new reply → Made w command now new reply
+  from_stepped_by : (size : ℕ) (a : Asked) → asked w.parts command m ≡ a → stepped_by w m size a ≡ Recorded new reply
+      → Made w command now new reply
   from_stepped_by size (Refuses rule) asking is = absurd (cc)
   from_stepped_by size (Reads r) asking is = absurd (cc)
   from_stepped_by size (AsksAll all) asking is =
-      from_judged size (too_full w.parts all m) all (outcomes w.parts all m) (asks_as_told w.parts command m all asking) refl is
+      from_judged size (too_full w.parts all m) all (outcomes w.parts all m)
+      (asks_as_told w.parts command m all asking) refl is
 
 -- what the stores did in a step that is recorded
-pub made : (w : World) (command : Command) (now : ℕ) (new : World) (reply : Reply) → step w command now ≡ Recorded new reply → Made w command now new reply
+pub made : (w : World) (command : Command) (now : ℕ) (new : World) (reply : Reply)
+    → step w command now ≡ Recorded new reply → Made w command now new reply
 unfolding step step_at
 made w command now new reply is = by_test (nat_le now greatest_moment) refl is
   where
-    by_test : (timely : Bool) → nat_le now greatest_moment ≡ timely → (if timely then step_at w command (effective_moment w now) else Refused MomentTooLate) ≡ Recorded new reply → Made w command now new reply
-    by_test true in_time is = from_stepped_by w command now new reply in_time (length (entry (effective_moment w now) command)) (asked w.parts command (effective_moment w now)) refl is
+    by_test : (timely : Bool) → nat_le now greatest_moment ≡ timely
+        → (if timely then step_at w command (effective_moment w now) else Refused MomentTooLate) ≡ Recorded new reply
+        → Made w command now new reply
+    by_test true in_time is = from_stepped_by w command now new reply in_time
+        (length (entry (effective_moment w now) command)) (asked w.parts command (effective_moment w now)) refl is
     by_test false late is = absurd (cc)
 
 -- the event of a recorded step
@@ -349,19 +399,26 @@ IsKept I =
     → I events w → Made w command now new reply → I (events ++ event w command now reply new ∷ []) new
 
 module _ (I : List Event → World → Type 0) (keeps : IsKept I) where
-  kept_by_one : (events : List Event) (w : World) (command : Command) (now : ℕ) (s : Stepped) → I events w → step w command now ≡ s → I (events ++ event_of w command now s) (world_after w s)
-  kept_by_one events w command now (Refused rule) holds is = subst (λ (es : List Event). I es w) (sym (append-nil events)) holds
-  kept_by_one events w command now (Read reply) holds is = subst (λ (es : List Event). I es w) (sym (append-nil events)) holds
-  kept_by_one events w command now (Quieted reply) holds is = subst (λ (es : List Event). I es w) (sym (append-nil events)) holds
-  kept_by_one events w command now (Recorded new reply) holds is = keeps events w command now new reply holds (made w command now new reply is)
+  kept_by_one : (events : List Event) (w : World) (command : Command) (now : ℕ) (s : Stepped) → I events w
+      → step w command now ≡ s → I (events ++ event_of w command now s) (world_after w s)
+  kept_by_one events w command now (Refused rule) holds is =
+      subst (λ (es : List Event). I es w) (sym (append-nil events)) holds
+  kept_by_one events w command now (Read reply) holds is =
+      subst (λ (es : List Event). I es w) (sym (append-nil events)) holds
+  kept_by_one events w command now (Quieted reply) holds is =
+      subst (λ (es : List Event). I es w) (sym (append-nil events)) holds
+  kept_by_one events w command now (Recorded new reply) holds is =
+      keeps events w command now new reply holds (made w command now new reply is)
 
   -- so it holds after more entries, where it holds before them
-  pub kept_from : (entries : List Entry) (events : List Event) (w : World) → I events w → I (events ++ trace_from w entries) (replay_from w entries)
+  pub kept_from : (entries : List Entry) (events : List Event) (w : World) → I events w
+      → I (events ++ trace_from w entries) (replay_from w entries)
   kept_from [] events w holds = subst (λ (es : List Event). I es w) (sym (append-nil events)) holds
   kept_from (e ∷ entries) events w holds =
       let s = step w e.command e.moment in
       let first = event_of w e.command e.moment s in
-      subst (λ (es : List Event). I es (replay_from (after w e) entries)) (append_assoc events first (trace_from (after w e) entries))
+      subst (λ (es : List Event). I es (replay_from (after w e) entries))
+      (append_assoc events first (trace_from (after w e) entries))
       (kept_from entries (events ++ first) (after w e) (kept_by_one events w e.command e.moment s holds refl))
 
   -- and of each history

@@ -47,17 +47,20 @@ use Rattle.fh_hub.proofs.Answering.{timers_answered, work_answered}
 -- ---- what a timer's command asks
 
 -- a timer's function has its number
-timer-number : (name : List ℕ) (part : WorkPart) (timer : Timer) → timer_of name part.functions ≡ Some timer → number_of part name ≡ Some timer.function
+timer-number : (name : List ℕ) (part : WorkPart) (timer : Timer) → timer_of name part.functions ≡ Some timer
+    → number_of part name ≡ Some timer.function
 timer-number name part timer is = by_found (function_of name part.functions) refl
   where
-    by_found : (found : Option Function) → function_of name part.functions ≡ found → number_of part name ≡ Some timer.function
+    by_found : (found : Option Function) → function_of name part.functions ≡ found
+        → number_of part name ≡ Some timer.function
     by_found None found = absurd (none_found (sym (ap timer_found found) ∙ is))
       where
         none_found : None ≡ Some timer → ⊥
         none_found is = cc
     by_found (Some function) found =
         ap (option_map (λ (f : Function). f.number)) found
-        ∙ ap (λ (n : ℕ). Some n) (sym (work_laws.timer-number function.number function.settings timer (sym (ap timer_found found) ∙ is)))
+        ∙ ap (λ (n : ℕ). Some n) (sym (work_laws.timer-number function.number function.settings timer
+        (sym (ap timer_found found) ∙ is)))
 
 -- the ask is for this timer, and tells whether a job of it is in work
 record AsksFor (parts : Parts) (timer : Timer) (ask : TimerAsk) : Type 0 where
@@ -66,7 +69,8 @@ record AsksFor (parts : Parts) (timer : Timer) (ask : TimerAsk) : Type 0 where
   busy : laws.is_busy ask ≡ is_busy timer.function parts.work.ready
   asked : function_asked ask ≡ timer.function
 
-asks_for : (parts : Parts) (command : Command) (timer : Timer) → timer_in parts command ≡ Some timer → AsksFor parts timer (timer_ask_in parts command)
+asks_for : (parts : Parts) (command : Command) (timer : Timer) → timer_in parts command ≡ Some timer
+    → AsksFor parts timer (timer_ask_in parts command)
 asks_for parts (Arm function) timer is =
     subst (λ (t : Option Timer). AsksFor parts timer (arming parts.work t)) (sym is)
     (record { about = λ f. refl; given = λ f. refl; busy = refl; asked = refl })
@@ -76,17 +80,20 @@ asks_for parts (Tick function) timer is =
 asks_for parts command timer is = absurd (cc)
 
 -- a command without a timer asks for none
-asks_none : (parts : Parts) (command : Command) → timer_in parts command ≡ None → timer_ask_in parts command ≡ asks.Nothing
+asks_none : (parts : Parts) (command : Command) → timer_in parts command ≡ None
+    → timer_ask_in parts command ≡ asks.Nothing
 asks_none parts (Arm function) is = ap (arming parts.work) is
 asks_none parts (Tick function) is = ap (ticking parts.work) is
 asks_none parts command is = refl
 
-timed : (parts : Parts) (command : Command) (timer : Timer) → timer_in parts command ≡ Some timer → is_timed command ≡ true
+timed : (parts : Parts) (command : Command) (timer : Timer) → timer_in parts command ≡ Some timer
+    → is_timed command ≡ true
 timed parts (Arm function) timer is = refl
 timed parts (Tick function) timer is = refl
 timed parts command timer is = absurd (cc)
 
-plainly : (parts : Parts) (command : Command) (timer : Timer) → timer_in parts command ≡ Some timer → is_configure command ≡ false
+plainly : (parts : Parts) (command : Command) (timer : Timer) → timer_in parts command ≡ Some timer
+    → is_configure command ≡ false
 plainly parts (Arm function) timer is = refl
 plainly parts (Tick function) timer is = refl
 plainly parts command timer is = absurd (cc)
@@ -96,7 +103,8 @@ record HasName (part : WorkPart) (timer : Timer) : Type 0 where
   name : List ℕ
   is : timer_of name part.functions ≡ Some timer
 
-name_of : (parts : Parts) (command : Command) (timer : Timer) → timer_in parts command ≡ Some timer → HasName parts.work timer
+name_of : (parts : Parts) (command : Command) (timer : Timer) → timer_in parts command ≡ Some timer
+    → HasName parts.work timer
 name_of parts (Arm function) timer is = record { name = function; is = is }
 name_of parts (Tick function) timer is = record { name = function; is = is }
 name_of parts command timer is = absurd (cc)
@@ -112,7 +120,9 @@ none_some x is = cc
 same_some : (a b : ℕ) → Some a ≡ Some b → a ≡ b
 same_some a b is = cc
 
-told_due : (stores : Reply) (f : ℕ) (s : Schedule) (ask : TimerAsk) (answer : TimerDone) → schedule_given f ask ≡ Some s → laws.answers ask answer ≡ true → due_told (reply_of_timers stores answer) ≡ due_time answer
+told_due : (stores : Reply) (f : ℕ) (s : Schedule) (ask : TimerAsk) (answer : TimerDone)
+    → schedule_given f ask ≡ Some s → laws.answers ask answer ≡ true
+    → due_told (reply_of_timers stores answer) ≡ due_time answer
 told_due stores f s (asks.Arm function schedule startup monitor busy) (done.PastDue due next) given answers = refl
 told_due stores f s (asks.Arm function schedule startup monitor busy) (done.Armed next ready) given answers = refl
 told_due stores f s (asks.Arm function schedule startup monitor busy) answer given answers = absurd (cc)
@@ -122,7 +132,8 @@ told_due stores f s (asks.Remove function) answer given answers = absurd (none_s
 told_due stores f s asks.Nothing answer given answers = absurd (none_some s given)
 
 -- a run that is made ready isn't told by the work
-work_silent : (reply : Reply) (function : ℕ) (run : Option TimerRun) (answer : WorkDone) → work_specs.answers (ready_by function run) answer ≡ true → reply_of_work reply answer ≡ reply
+work_silent : (reply : Reply) (function : ℕ) (run : Option TimerRun) (answer : WorkDone)
+    → work_specs.answers (ready_by function run) answer ≡ true → reply_of_work reply answer ≡ reply
 work_silent reply function None work_done.Nothing answers = refl
 work_silent reply function None answer answers = absurd (cc)
 work_silent reply function (Some run) work_done.Ready answers = refl
@@ -164,11 +175,18 @@ has_row : (found : Option TimerRow) (time : ℕ) → next_of found ≡ Some time
 has_row None time is = absurd (none_some time is)
 has_row (Some row) time is = (row, refl)
 
-of_schedule : (before timer : Timer) (time : ℕ) → before.schedule ≡ timer.schedule → IsScheduled before time → IsScheduled timer time
+of_schedule : (before timer : Timer) (time : ℕ) → before.schedule ≡ timer.schedule → IsScheduled before time
+    → IsScheduled timer time
 of_schedule before timer time same is =
-    record { second = is.second; at = is.at; scheduled = ap (λ (s : Schedule). is_in s (pos is.second)) (sym same) ∙ is.scheduled }
+    record {
+      second = is.second;
+      at = is.at;
+      scheduled = ap (λ (s : Schedule). is_in s (pos is.second)) (sym same)
+          ∙ is.scheduled;
+    }
 
-module _ (events : List Event) (w : World) (command : Command) (now : ℕ) (new : World) (reply : Reply) (h : Timed events w) (made : Made w command now new reply) where
+module _ (events : List Event) (w : World) (command : Command) (now : ℕ) (new : World) (reply : Reply)
+    (h : Timed events w) (made : Made w command now new reply) where
   abbrev m : ℕ
   m = effective_moment w now
 
@@ -187,7 +205,8 @@ module _ (events : List Event) (w : World) (command : Command) (now : ℕ) (new 
   -- the asks of a command with a timer
   ask_is : (timer : Timer) → timer_in w.parts command ≡ Some timer → AsksFor w.parts timer ask
   ask_is timer is =
-      subst (λ (a : TimerAsk). AsksFor w.parts timer a) (sym (timers_asked_plainly w.parts command m (plainly w.parts command timer is)))
+      subst (λ (a : TimerAsk). AsksFor w.parts timer a)
+      (sym (timers_asked_plainly w.parts command m (plainly w.parts command timer is)))
       (asks_for w.parts command timer is)
 
   removed : (function f : ℕ) → ask ≡ asks.Remove function → function ≡ f → row_of f new.parts.timers.timers ≡ None
@@ -197,14 +216,19 @@ module _ (events : List Event) (w : World) (command : Command) (now : ℕ) (new 
       (timer_laws.removes_rows w.parts.timers ask m new.parts.timers made.done.timers h.timers early made.timers)
 
   -- and of one without
-  ask_none : timer_in w.parts command ≡ None → (f : ℕ) → (schedule_given f ask ≡ None) × ((laws.is_about f ask ≡ false) ⊎ (row_of f new.parts.timers.timers ≡ None))
+  ask_none : timer_in w.parts command ≡ None → (f : ℕ)
+      → (schedule_given f ask ≡ None) × ((laws.is_about f ask ≡ false) ⊎ (row_of f new.parts.timers.timers ≡ None))
   ask_none is f =
       elim (asked_of_timers w.parts command m) [
-        | inl plain ↦ (ap (schedule_given f) (plain ∙ asks_none w.parts command is), inl (ap (laws.is_about f) (plain ∙ asks_none w.parts command is)))
+        | inl plain ↦ (
+          ap (schedule_given f) (plain ∙ asks_none w.parts command is),
+          inl (ap (laws.is_about f) (plain ∙ asks_none w.parts command is)),
+        )
         | inr one ↦ (ap (schedule_given f) one.1, by_test one.0 one.1 (one.0 == f) refl)
       ]
     where
-      by_test : (function : ℕ) → ask ≡ asks.Remove function → (b : Bool) → (function == f) ≡ b → (laws.is_about f ask ≡ false) ⊎ (row_of f new.parts.timers.timers ≡ None)
+      by_test : (function : ℕ) → ask ≡ asks.Remove function → (b : Bool) → (function == f) ≡ b
+          → (laws.is_about f ask ≡ false) ⊎ (row_of f new.parts.timers.timers ≡ None)
       by_test function is false apart = inl (ap (laws.is_about f) is ∙ apart)
       by_test function is true same = inr (removed function f is (grind (arith, nat_tests, same)))
 
@@ -215,18 +239,24 @@ module _ (events : List Event) (w : World) (command : Command) (now : ℕ) (new 
       let about = ask_is timer is in
       let ready = work_timed w.parts command m (timed w.parts command timer is) in
       let silent = work_silent (reply_of_timers (reply_of_stores made.done) made.done.timers) _ _ made.done.work
-      (subst (λ (a : work.Ask). work_specs.answers a made.done.work ≡ true) ready (work_answered w command now new reply made)) in
+      (subst (λ (a : work.Ask). work_specs.answers a made.done.work ≡ true) ready
+      (work_answered w command now new reply made)) in
       ap due_told (made.replies ∙ silent)
       ∙ told_due (reply_of_stores made.done) timer.function timer.schedule ask made.done.timers
-      (about.given timer.function ∙ ap (λ b. if b then Some timer.schedule else None) (own_number timer.function)) (timers_answered w command now new reply made)
+      (about.given timer.function ∙ ap (λ b. if b then Some timer.schedule else None) (own_number timer.function))
+      (timers_answered w command now new reply made)
 
-  is_due : (timer : Timer) (due : ℕ) → timer_in w.parts command ≡ Some timer → due_told reply ≡ Some due → IsDue w new m timer.function due
+  is_due : (timer : Timer) (due : ℕ) → timer_in w.parts command ≡ Some timer → due_told reply ≡ Some due
+      → IsDue w new m timer.function due
   is_due timer due is tells =
       between (row_of timer.function w.parts.timers.timers) (row_of timer.function new.parts.timers.timers) refl refl
-      (timer_laws.raises_due_times w.parts.timers ask m new.parts.timers made.done.timers h.timers early made.timers timer.function due
+      (timer_laws.raises_due_times w.parts.timers ask m new.parts.timers made.done.timers h.timers early made.timers
+      timer.function due
       ((ask_is timer is).about timer.function ∙ own_number timer.function) (sym (told timer is) ∙ tells))
     where
-      between : (before after : Option TimerRow) → row_of timer.function w.parts.timers.timers ≡ before → row_of timer.function new.parts.timers.timers ≡ after → IsDueBetween m due before after → IsDue w new m timer.function due
+      between : (before after : Option TimerRow) → row_of timer.function w.parts.timers.timers ≡ before
+          → row_of timer.function new.parts.timers.timers ≡ after → IsDueBetween m due before after
+          → IsDue w new m timer.function due
       between (Some row) (Some later) was is by = record {
         stored = ap next_of was ∙ by.stored;
         come = by.come;
@@ -236,20 +266,24 @@ module _ (events : List Event) (w : World) (command : Command) (now : ℕ) (new 
       between (Some row) None was is by = absurd by
 
   -- the next time stays behind what is over
-  stays_later : (f due : ℕ) → due ≤ m → IfSome (next_of (row_of f w.parts.timers.timers)) (λ time. due < time) → IfSome (next_of (row_of f new.parts.timers.timers)) (λ time. due < time)
-  stays_later f due over before = timer_laws.keeps_later w.parts.timers ask m new.parts.timers made.done.timers h.timers early made.timers f due over before
+  stays_later : (f due : ℕ) → due ≤ m → IfSome (next_of (row_of f w.parts.timers.timers)) (λ time. due < time)
+      → IfSome (next_of (row_of f new.parts.timers.timers)) (λ time. due < time)
+  stays_later f due over before = timer_laws.keeps_later w.parts.timers ask m new.parts.timers made.done.timers
+      h.timers early made.timers f due over before
 
   goes_on : (f : ℕ) → Rising (due_times f events) m (next_of (row_of f new.parts.timers.timers))
   goes_on f = record { rose = (h.rising f).rose; past = still (due_times f events).last (h.rising f).past }
     where
-      still : (last : Option ℕ) → IfSome last (λ due. (due ≤ w.last) × IfSome (next_of (row_of f w.parts.timers.timers)) (λ time. due < time))
+      still : (last : Option ℕ) → IfSome last (λ due. (due ≤ w.last)
+          × IfSome (next_of (row_of f w.parts.timers.timers)) (λ time. due < time))
           → IfSome last (λ due. (due ≤ m) × IfSome (next_of (row_of f new.parts.timers.timers)) (λ time. due < time))
       still None past = tt
       still (Some due) past =
           let over : due ≤ m = let first = past.0 in omega (arith, first) in
           (over, stays_later f due over past.1)
 
-  rises : (f due : ℕ) → IsDue w new m f due → Rising (and_then (due_times f events) (Some due)) m (next_of (row_of f new.parts.timers.timers))
+  rises : (f due : ℕ) → IsDue w new m f due → Rising (and_then (due_times f events) (Some due)) m
+      (next_of (row_of f new.parts.timers.timers))
   rises f due is = record {
     rose = both (due_times f events).rose _ (h.rising f).rose (above (due_times f events).last (h.rising f).past);
     past = (is.come, all_later (next_of (row_of f new.parts.timers.timers)) is.later);
@@ -258,7 +292,8 @@ module _ (events : List Event) (w : World) (command : Command) (now : ℕ) (new 
       both : (a b : Bool) → a ≡ true → b ≡ true → (a && b) ≡ true
       both a b x y = rw x y
 
-      above : (last : Option ℕ) → IfSome last (λ d. (d ≤ w.last) × IfSome (next_of (row_of f w.parts.timers.timers)) (λ time. d < time)) → is_above due last ≡ true
+      above : (last : Option ℕ) → IfSome last (λ d. (d ≤ w.last)
+          × IfSome (next_of (row_of f w.parts.timers.timers)) (λ time. d < time)) → is_above due last ≡ true
       above None past = refl
       above (Some d) past =
           let less : d < due = subst (λ (next : Option ℕ). IfSome next (λ time. d < time)) is.stored past.1 in
@@ -268,44 +303,61 @@ module _ (events : List Event) (w : World) (command : Command) (now : ℕ) (new 
       all_later None later = tt
       all_later (Some time) later = let come = is.come in omega (arith, later, come)
 
-  due_is : (f : ℕ) (found : Option Timer) → timer_in w.parts command ≡ found → (told_due : Option ℕ) → due_told reply ≡ told_due
+  due_is : (f : ℕ) (found : Option Timer) → timer_in w.parts command ≡ found → (told_due : Option ℕ)
+      → due_told reply ≡ told_due
       → Rising (and_then (due_times f events) (due_if f found told_due)) m (next_of (row_of f new.parts.timers.timers))
   due_is f None is due tells = goes_on f
   due_is f (Some timer) is None tells = by_test (timer.function == f)
     where
-      by_test : (b : Bool) → Rising (and_then (due_times f events) (if b then None else None)) m (next_of (row_of f new.parts.timers.timers))
+      by_test : (b : Bool) → Rising (and_then (due_times f events) (if b then None else None)) m
+          (next_of (row_of f new.parts.timers.timers))
       by_test true = goes_on f
       by_test false = goes_on f
   due_is f (Some timer) is (Some due) tells = by_test (timer.function == f) refl
     where
-      by_test : (b : Bool) → (timer.function == f) ≡ b → Rising (and_then (due_times f events) (if b then Some due else None)) m (next_of (row_of f new.parts.timers.timers))
+      by_test : (b : Bool) → (timer.function == f) ≡ b → Rising
+          (and_then (due_times f events) (if b then Some due else None)) m (next_of (row_of f new.parts.timers.timers))
       by_test false apart = goes_on f
-      by_test true same = rises f due (subst (λ (n : ℕ). IsDue w new m n due) (grind (arith, nat_tests, same)) (is_due timer due is tells))
+      by_test true same = rises f due (subst (λ (n : ℕ). IsDue w new m n due) (grind (arith, nat_tests, same))
+          (is_due timer due is tells))
 
   rising_after : (f : ℕ) → Rising (due_times f (events ++ e ∷ [])) new.last (next_of (row_of f new.parts.timers.timers))
   rising_after f =
-      subst (λ (k : ℕ). Rising (due_times f (events ++ e ∷ [])) k (next_of (row_of f new.parts.timers.timers))) (sym made.last)
+      subst (λ (k : ℕ). Rising (due_times f (events ++ e ∷ [])) k (next_of (row_of f new.parts.timers.timers)))
+      (sym made.last)
       (subst (λ (t : DueTimes). Rising t m (next_of (row_of f new.parts.timers.timers)))
-      (sym (fold_push (λ times (x : Event). and_then times (due_of f x)) (record { last = None; rose = true }) events e))
+      (sym (fold_push (λ times (x : Event). and_then times (due_of f x)) (record { last = None; rose = true })
+      events e))
       (due_is f (timer_in w.parts command) refl (due_told reply) refl))
 
   -- ---- rows of functions
 
   kept : (f : ℕ) → Owned w.parts.work f → Owned new.parts.work f
-  kept f owned = record { name = owned.name; is = work_laws.numbers_kept w.parts.work (others_of w.parts) given m new.parts.work made.done.work h.work made.work owned.name f owned.is }
+  kept f owned = record {
+    name = owned.name;
+    is = work_laws.numbers_kept w.parts.work (others_of w.parts)
+        given m new.parts.work made.done.work h.work made.work owned.name f owned.is;
+  }
 
   owned_after : (f : ℕ) (row : TimerRow) → row_of f new.parts.timers.timers ≡ Some row → Owned new.parts.work f
   owned_after f row is = by_timer (timer_in w.parts command) refl
     where
       other : laws.is_about f ask ≡ false → Owned new.parts.work f
-      other apart = kept f (h.owned f row (sym (timer_laws.keeps_others w.parts.timers ask m new.parts.timers made.done.timers h.timers early made.timers f apart) ∙ is))
+      other apart = kept f (h.owned f row (sym
+          (timer_laws.keeps_others w.parts.timers ask m new.parts.timers made.done.timers h.timers early made.timers f
+          apart) ∙ is))
 
-      by_test : (timer : Timer) → timer_in w.parts command ≡ Some timer → (b : Bool) → (timer.function == f) ≡ b → Owned new.parts.work f
+      by_test : (timer : Timer) → timer_in w.parts command ≡ Some timer → (b : Bool) → (timer.function == f) ≡ b
+          → Owned new.parts.work f
       by_test timer there false apart = other ((ask_is timer there).about f ∙ apart)
       by_test timer there true same =
           let named = name_of w.parts command timer there in
           let number : timer.function ≡ f = grind (arith, nat_tests, same) in
-          kept f (record { name = named.name; is = timer-number named.name w.parts.work timer named.is ∙ ap (λ (n : ℕ). Some n) number })
+          kept f (record {
+            name = named.name;
+            is = timer-number named.name w.parts.work timer named.is
+                ∙ ap (λ (n : ℕ). Some n) number;
+          })
 
       by_timer : (found : Option Timer) → timer_in w.parts command ≡ found → Owned new.parts.work f
       by_timer None none =
@@ -317,55 +369,75 @@ module _ (events : List Event) (w : World) (command : Command) (now : ℕ) (new 
 
   -- ---- schedules
 
-  old_schedule : (timer : Timer) (time : ℕ) (name : List ℕ) → work_specs.HasTimer w.parts.work name timer → next_of (row_of timer.function w.parts.timers.timers) ≡ Some time → IsScheduled timer time
+  old_schedule : (timer : Timer) (time : ℕ) (name : List ℕ) → work_specs.HasTimer w.parts.work name timer
+      → next_of (row_of timer.function w.parts.timers.timers) ≡ Some time → IsScheduled timer time
   old_schedule timer time name old was =
       of_schedule old.before timer time old.schedule
-      (h.scheduled name old.before old.there time (ap (λ n. next_of (row_of n w.parts.timers.timers)) old.function ∙ was))
+      (h.scheduled name old.before old.there time
+      (ap (λ n. next_of (row_of n w.parts.timers.timers)) old.function ∙ was))
 
-  no_next : (timer : Timer) (time : ℕ) → row_of timer.function new.parts.timers.timers ≡ None → next_of (row_of timer.function new.parts.timers.timers) ≡ Some time → ⊥
+  no_next : (timer : Timer) (time : ℕ) → row_of timer.function new.parts.timers.timers ≡ None
+      → next_of (row_of timer.function new.parts.timers.timers) ≡ Some time → ⊥
   no_next timer time none next = none_some time (sym (ap next_of none) ∙ next)
 
-  asked_removal : (timer : Timer) → asks_timers w.parts.work given ≡ Some (asks.Remove timer.function) → row_of timer.function new.parts.timers.timers ≡ None
+  asked_removal : (timer : Timer) → asks_timers w.parts.work given ≡ Some (asks.Remove timer.function)
+      → row_of timer.function new.parts.timers.timers ≡ None
   asked_removal timer removes =
-      removed timer.function timer.function (ap (λ (a : Option TimerAsk). unwrap_or a (asks_at w command now).timers) removes) refl
+      removed timer.function timer.function (ap (λ (a : Option TimerAsk). unwrap_or a (asks_at w command now).timers)
+      removes) refl
 
   not_new : (timer : Timer) → Owned w.parts.work timer.function → timer.function ≡ w.parts.work.next_function → ⊥
   not_new timer owned new_one =
       let before = (h.work.given owned.name timer.function owned.is).1 in omega (arith, before, new_one)
 
-  stored_before : (name : List ℕ) (timer : Timer) (time : ℕ) → timer_of name new.parts.work.functions ≡ Some timer → next_of (row_of timer.function new.parts.timers.timers) ≡ Some time
+  stored_before : (name : List ℕ) (timer : Timer) (time : ℕ) → timer_of name new.parts.work.functions ≡ Some timer
+      → next_of (row_of timer.function new.parts.timers.timers) ≡ Some time
       → next_of (row_of timer.function w.parts.timers.timers) ≡ Some time → IsScheduled timer time
   stored_before name timer time is next was =
-      elim (work_laws.keeps_timers w.parts.work (others_of w.parts) given m new.parts.work made.done.work h.work made.work name timer is) [
+      elim (work_laws.keeps_timers w.parts.work (others_of w.parts)
+      given m new.parts.work made.done.work h.work made.work name timer is) [
         | inl old ↦ old_schedule timer time name old was
         | inr more ↦ elim more [
-          | inl fresh ↦ (let there = has_row (row_of timer.function w.parts.timers.timers) time was in absurd (not_new timer (h.owned timer.function there.0 there.1) fresh))
+          | inl fresh ↦ (let there = has_row (row_of timer.function w.parts.timers.timers) time was in
+              absurd (not_new timer (h.owned timer.function there.0 there.1) fresh))
           | inr removes ↦ absurd (no_next timer time (asked_removal timer removes) next)
         ]
       ]
 
   -- the timer of a number is one
-  one_timer : (name : List ℕ) (timer other : Timer) → work_specs.HasTimer w.parts.work name timer → HasName w.parts.work other → other.function ≡ timer.function → other.schedule ≡ timer.schedule
+  one_timer : (name : List ℕ) (timer other : Timer) → work_specs.HasTimer w.parts.work name timer
+      → HasName w.parts.work other → other.function ≡ timer.function → other.schedule ≡ timer.schedule
   one_timer name timer other old named same =
-      let first = timer-number name w.parts.work old.before old.there ∙ ap (λ (n : ℕ). Some n) (old.function ∙ sym same) in
+      let first = timer-number name w.parts.work old.before old.there
+      ∙ ap (λ (n : ℕ). Some n) (old.function ∙ sym same) in
       let second = timer-number named.name w.parts.work other named.is in
       let names = h.work.apart name named.name other.function first second in
-      let timers : Some old.before ≡ Some other = sym old.there ∙ ap (λ n. timer_of n w.parts.work.functions) names ∙ named.is in
+      let timers : Some old.before ≡ Some other = sym old.there ∙ ap (λ n. timer_of n w.parts.work.functions) names
+      ∙ named.is in
       let are : old.before ≡ other = cc in
       ap (λ (t : Timer). t.schedule) (sym are) ∙ old.schedule
 
-  given_now : (name : List ℕ) (timer : Timer) (time : ℕ) → timer_of name new.parts.work.functions ≡ Some timer → next_of (row_of timer.function new.parts.timers.timers) ≡ Some time
+  given_now : (name : List ℕ) (timer : Timer) (time : ℕ) → timer_of name new.parts.work.functions ≡ Some timer
+      → next_of (row_of timer.function new.parts.timers.timers) ≡ Some time
       → IsTimeGiven (schedule_given timer.function ask) m time → IsScheduled timer time
   given_now name timer time is next gives = by_timer (timer_in w.parts command) refl
     where
-      by_test : (other : Timer) → timer_in w.parts command ≡ Some other → (b : Bool) → (other.function == timer.function) ≡ b → IsTimeGiven (if b then Some other.schedule else None) m time → IsScheduled timer time
+      by_test : (other : Timer) → timer_in w.parts command ≡ Some other → (b : Bool)
+          → (other.function == timer.function) ≡ b → IsTimeGiven (if b then Some other.schedule else None) m time
+          → IsScheduled timer time
       by_test other there false apart by = absurd by
       by_test other there true same by =
           let number : other.function ≡ timer.function = grind (arith, nat_tests, same) in
           let named = name_of w.parts command other there in
-          let owned : Owned w.parts.work timer.function = record { name = named.name; is = timer-number named.name w.parts.work other named.is ∙ ap (λ (n : ℕ). Some n) number } in
+          let owned : Owned w.parts.work timer.function =
+          record {
+            name = named.name;
+            is = timer-number named.name w.parts.work other named.is
+                ∙ ap (λ (n : ℕ). Some n) number;
+          } in
           let found : IsScheduled other time = record { second = by.second; at = by.at; scheduled = by.scheduled } in
-          elim (work_laws.keeps_timers w.parts.work (others_of w.parts) given m new.parts.work made.done.work h.work made.work name timer is) [
+          elim (work_laws.keeps_timers w.parts.work (others_of w.parts)
+          given m new.parts.work made.done.work h.work made.work name timer is) [
             | inl old ↦ of_schedule other timer time (one_timer name timer other old named number) found
             | inr more ↦ elim more [
               | inl fresh ↦ absurd (not_new timer owned fresh)
@@ -374,13 +446,17 @@ module _ (events : List Event) (w : World) (command : Command) (now : ℕ) (new 
           ]
 
       by_timer : (found : Option Timer) → timer_in w.parts command ≡ found → IsScheduled timer time
-      by_timer None none = absurd (subst (λ (s : Option Schedule). IsTimeGiven s m time) (ask_none none timer.function).0 gives)
+      by_timer None none = absurd (subst (λ (s : Option Schedule). IsTimeGiven s m time)
+          (ask_none none timer.function).0 gives)
       by_timer (Some other) there =
-          by_test other there (other.function == timer.function) refl (subst (λ (s : Option Schedule). IsTimeGiven s m time) ((ask_is other there).given timer.function) gives)
+          by_test other there (other.function == timer.function) refl
+          (subst (λ (s : Option Schedule). IsTimeGiven s m time) ((ask_is other there).given timer.function) gives)
 
-  scheduled_after : (name : List ℕ) (timer : Timer) → timer_of name new.parts.work.functions ≡ Some timer → (time : ℕ) → next_of (row_of timer.function new.parts.timers.timers) ≡ Some time → IsScheduled timer time
+  scheduled_after : (name : List ℕ) (timer : Timer) → timer_of name new.parts.work.functions ≡ Some timer → (time : ℕ)
+      → next_of (row_of timer.function new.parts.timers.timers) ≡ Some time → IsScheduled timer time
   scheduled_after name timer is time next =
-      elim (timer_laws.keeps_schedules w.parts.timers ask m new.parts.timers made.done.timers h.timers early made.timers timer.function time next) [
+      elim (timer_laws.keeps_schedules w.parts.timers ask m new.parts.timers made.done.timers h.timers early
+      made.timers timer.function time next) [
         | inl was ↦ stored_before name timer time is next was
         | inr gives ↦ given_now name timer time is next gives
       ]
@@ -388,7 +464,8 @@ module _ (events : List Event) (w : World) (command : Command) (now : ℕ) (new 
   due_in_time : IsDueInTime e
   due_in_time = by_timer (timer_in w.parts command) refl (due_told reply) refl
     where
-      by_timer : (found : Option Timer) → timer_in w.parts command ≡ found → (due : Option ℕ) → due_told reply ≡ due → IfSome found (λ timer. IfSome due (IsScheduled timer))
+      by_timer : (found : Option Timer) → timer_in w.parts command ≡ found → (due : Option ℕ) → due_told reply ≡ due
+          → IfSome found (λ timer. IfSome due (IsScheduled timer))
       by_timer None is due tells = tt
       by_timer (Some timer) is None tells = tt
       by_timer (Some timer) is (Some due) tells =
@@ -408,32 +485,41 @@ module _ (events : List Event) (w : World) (command : Command) (now : ℕ) (new 
       own : TimerAsk
       own = timer_ask_in w.parts command
 
-      idle : (run : TimerRun) (found : judging.Judged TimerPart TimerDone) → timers.outcome w.parts.timers own m ≡ found → run_made found ≡ Some run → laws.is_busy own ≡ false
+      idle : (run : TimerRun) (found : judging.Judged TimerPart TimerDone)
+          → timers.outcome w.parts.timers own m ≡ found → run_made found ≡ Some run → laws.is_busy own ≡ false
       idle run (judging.Refuses rule) is makes = absurd (none_some run makes)
       idle run (judging.Quiets answer) is makes = absurd (none_some run makes)
       idle run (judging.Makes part answer) is makes =
-          subst (λ (r : Option TimerRun). IfSome r (λ x. laws.is_busy own ≡ false)) makes (timer_laws.runs_where_idle w.parts.timers own m part answer is)
+          subst (λ (r : Option TimerRun). IfSome r (λ x. laws.is_busy own ≡ false)) makes
+          (timer_laws.runs_where_idle w.parts.timers own m part answer is)
 
-      by_found : (found : Option Timer) → timer_in w.parts command ≡ found → (run : Option TimerRun) → run_made (timers.outcome w.parts.timers own m) ≡ run → work_specs.FindsNoJob w.parts.work (ready_by (function_asked own) run)
+      by_found : (found : Option Timer) → timer_in w.parts command ≡ found → (run : Option TimerRun)
+          → run_made (timers.outcome w.parts.timers own m) ≡ run
+          → work_specs.FindsNoJob w.parts.work (ready_by (function_asked own) run)
       by_found found is None makes = tt
       by_found None is (Some run) makes =
-          absurd (none_some run (sym (no_run w.parts.timers m) ∙ ap (λ a. run_made (timers.outcome w.parts.timers a m)) (sym (asks_none w.parts command is)) ∙ makes))
+          absurd (none_some run (sym (no_run w.parts.timers m)
+          ∙ ap (λ a. run_made (timers.outcome w.parts.timers a m)) (sym (asks_none w.parts command is)) ∙ makes))
       by_found (Some timer) is (Some run) makes =
           let about = asks_for w.parts command timer is in
-          ap (λ f. is_busy f w.parts.work.ready) about.asked ∙ sym about.busy ∙ idle run (timers.outcome w.parts.timers own m) refl makes
+          ap (λ f. is_busy f w.parts.work.ready) about.asked ∙ sym about.busy
+          ∙ idle run (timers.outcome w.parts.timers own m) refl makes
 
       by_kind : (b : Bool) → is_timed command ≡ b → work_specs.FindsNoJob w.parts.work given
-      by_kind false plain = subst (work_specs.FindsNoJob w.parts.work) (sym (work_asked w.parts command m plain)) (plain_ask command)
+      by_kind false plain = subst (work_specs.FindsNoJob w.parts.work) (sym (work_asked w.parts command m plain))
+          (plain_ask command)
       by_kind true kind =
           subst (work_specs.FindsNoJob w.parts.work) (sym (work_timed w.parts command m kind))
           (by_found (timer_in w.parts command) refl (run_made (timers.outcome w.parts.timers own m)) refl)
 
   one_after : (f : ℕ) → runs_in f new.parts.work.ready ≤ 1
-  one_after f = work_laws.keeps_one_run w.parts.work (others_of w.parts) given m new.parts.work made.done.work h.work made.work finds_none f (h.one f)
+  one_after f = work_laws.keeps_one_run w.parts.work (others_of w.parts)
+      given m new.parts.work made.done.work h.work made.work finds_none f (h.one f)
 
   timed_after : Timed (events ++ e ∷ []) new
   timed_after = record {
-    work = work_laws.Whole-outcome w.parts.work (others_of w.parts) given m new.parts.work made.done.work h.work made.work;
+    work = work_laws.Whole-outcome w.parts.work (others_of w.parts)
+        given m new.parts.work made.done.work h.work made.work;
     timers = timer_laws.Whole-outcome w.parts.timers ask m new.parts.timers made.done.timers h.timers early made.timers;
     timely = omega (arith, made.last, early);
     owned = owned_after;

@@ -73,25 +73,32 @@ pub record Told (events : List Event) (w : World) : Type 0 where
   pub seen : (n : ℕ) → IsSeenBy n events w.last (seen n w.parts.queues)
 
 -- until when a message is held is what is told of it
-hold_as_told : (parts : Parts) (n m : ℕ) (command : Command) (reply : Reply) (ask : Ask) (answer : QueueDone) → IsAskedOf parts command ask
-    → lists n reply ≡ lists_item n (items_in answer) → (signs_of parts m command reply).hold n ≡ hold_given n m ask answer
+hold_as_told : (parts : Parts) (n m : ℕ) (command : Command) (reply : Reply) (ask : Ask) (answer : QueueDone)
+    → IsAskedOf parts command ask
+    → lists n reply ≡ lists_item n (items_in answer) → (signs_of parts m command reply).hold n
+    ≡ hold_given n m ask answer
 hold_as_told parts n m (Fetch function) reply ask answer asked listed =
     ap (λ among. held_if among (after m 600)) listed ∙ sym (ap (λ a. hold_given n m a answer) asked.2)
 hold_as_told parts n m (Take queue count hold) reply ask answer asked listed =
     ap (λ among. held_if among (after m hold)) listed ∙ sym (ap (λ a. hold_given n m a answer) asked)
-hold_as_told parts n m command reply ask answer asked listed = as_asked parts command ask (λ a. hold_given n m a answer) refl asked (λ queue. refl)
+hold_as_told parts n m command reply ask answer asked listed =
+    as_asked parts command ask (λ a. hold_given n m a answer) refl asked (λ queue. refl)
 
-removes_as_told : (parts : Parts) (n m : ℕ) (command : Command) (reply : Reply) (ask : Ask) → IsAskedOf parts command ask
+removes_as_told : (parts : Parts) (n m : ℕ) (command : Command) (reply : Reply) (ask : Ask)
+    → IsAskedOf parts command ask
     → (signs_of parts m command reply).removes n ≡ removes n m parts.queues.rows ask
 removes_as_told parts n m (Fetch function) reply ask asked = sym (ap (removes n m parts.queues.rows) asked.2)
-removes_as_told parts n m command reply ask asked = as_asked parts command ask (removes n m parts.queues.rows) refl asked (λ queue. refl)
+removes_as_told parts n m command reply ask asked =
+    as_asked parts command ask (removes n m parts.queues.rows) refl asked (λ queue. refl)
 
 -- the queue and the expiry that a command gives
-record IsBirth (parts : Parts) (m : ℕ) (command : Command) (reply : Reply) (ask : Ask) (answer : QueueDone) : Type 0 where
+record IsBirth (parts : Parts) (m : ℕ) (command : Command) (reply : Reply) (ask : Ask) (answer : QueueDone) :
+    Type 0 where
   pub queue : (n : ℕ) → (signs_of parts m command reply).queue ≡ queue_given n ask answer
   pub expiry : (signs_of parts m command reply).expiry ≡ expiry_given m ask
 
-birth_as_told : (parts : Parts) (m : ℕ) (command : Command) (reply : Reply) (ask : Ask) (answer : QueueDone) → IsAskedOf parts command ask → IsBirth parts m command reply ask answer
+birth_as_told : (parts : Parts) (m : ℕ) (command : Command) (reply : Reply) (ask : Ask) (answer : QueueDone)
+    → IsAskedOf parts command ask → IsBirth parts m command reply ask answer
 birth_as_told parts m (Fetch function) reply ask answer asked =
     record { queue = λ n. sym (ap (λ a. queue_given n a answer) asked.2); expiry = sym (ap (expiry_given m) asked.2) }
 birth_as_told parts m command reply ask answer asked = record {
@@ -100,22 +107,26 @@ birth_as_told parts m command reply ask answer asked = record {
 }
 
 -- what has expired at a moment has at each later one
-pub expired_later : (m later : ℕ) (expiry : Option ℕ) → m ≤ later → is_before m expiry ≡ false → is_before later expiry ≡ false
+pub expired_later : (m later : ℕ) (expiry : Option ℕ) → m ≤ later → is_before m expiry ≡ false
+    → is_before later expiry ≡ false
 expired_later m later None less is = absurd (cc)
 expired_later m later (Some end) less is = grind (arith, nat_tests)
 
 -- a message that doesn't stand has no row
-pub no_row : (n : ℕ) (part : QueuePart) (s : Seen) → seen n part ≡ s → ((row : Message) → s ≡ Stands row → ⊥) → row_of n part.rows ≡ None
+pub no_row : (n : ℕ) (part : QueuePart) (s : Seen) → seen n part ≡ s → ((row : Message) → s ≡ Stands row → ⊥)
+    → row_of n part.rows ≡ None
 no_row n part s is never = by_found (row_of n part.rows) refl
   where
     by_found : (found : Option Message) → row_of n part.rows ≡ found → found ≡ None
     by_found None found = refl
     by_found (Some row) found = absurd (never row (sym is ∙ ap (λ r. seen_by r (end_of n part.ends)) found))
 
-more_below : (next later k : ℕ) → 1 ≤ next → next ≤ later → once_below next k + (if nat_le next k && nat_lt k later then 1 else 0) ≡ once_below later k
+more_below : (next later k : ℕ) → 1 ≤ next → next ≤ later
+    → once_below next k + (if nat_le next k && nat_lt k later then 1 else 0) ≡ once_below later k
 more_below next later k begun less = grind (arith, nat_tests)
 
-module _ (events : List Event) (w : World) (command : Command) (now : ℕ) (new : World) (reply : Reply) (h : Told events w) (made : Made w command now new reply) where
+module _ (events : List Event) (w : World) (command : Command) (now : ℕ) (new : World) (reply : Reply)
+    (h : Told events w) (made : Made w command now new reply) where
   abbrev m : ℕ
   m = effective_moment w now
 
@@ -144,7 +155,8 @@ module _ (events : List Event) (w : World) (command : Command) (now : ℕ) (new 
       never : births number events ≡ 0
       never =
           let bearing : born number answer ≡ true = ap (born number) is ∙ same number in
-          let next = sym (gives_numbers w.parts.queues ask m new.parts.queues answer h.whole made.queues number) ∙ bearing in
+          let next = sym (gives_numbers w.parts.queues ask m new.parts.queues answer h.whole made.queues number)
+          ∙ bearing in
           let before = h.births number in
           grind (arith, nat_tests, next, before)
 
@@ -157,7 +169,8 @@ module _ (events : List Event) (w : World) (command : Command) (now : ℕ) (new 
       by_seen (Ended Expired) was = absurd (omega (arith, never, was.born))
 
   -- the row of a message that was put
-  pub stored_row : (queue : List ℕ) (delay : ℕ) (ttl : Option ℕ) (text : List ℕ) (about : Option About) (number receipt : ℕ)
+  pub stored_row : (queue : List ℕ) (delay : ℕ) (ttl : Option ℕ) (text : List ℕ) (about : Option About)
+      (number receipt : ℕ)
       → ask ≡ queue_asks.Put queue delay ttl text about → answer ≡ done.Stored number receipt
       → row_of number new.parts.queues.rows ≡ Some (numbered number receipt (new_message m queue delay ttl text about))
   stored_row queue delay ttl text about number receipt asks is =
@@ -166,7 +179,8 @@ module _ (events : List Event) (w : World) (command : Command) (now : ℕ) (new 
       ∙ ap (goes_on w.parts.queues m ask answer number) (unborn_now number receipt is)
       ∙ ap (λ a. newly w.parts.queues m a answer number) asks
       ∙ ap (λ d. newly w.parts.queues m (queue_asks.Put queue delay ttl text about) d number) is
-      ∙ ap (λ b. if b then Stands (numbered number receipt (new_message m queue delay ttl text about)) else Unborn) (same number))
+      ∙ ap (λ b. if b then Stands (numbered number receipt (new_message m queue delay ttl text about)) else Unborn)
+      (same number))
     where
       same : (n : ℕ) → (n == n) ≡ true
       same n = grind (arith, nat_tests)
@@ -175,8 +189,10 @@ module _ (events : List Event) (w : World) (command : Command) (now : ℕ) (new 
   own_receipt number receipt k is =
       by_ask ask refl (ap (queue_laws.answers ask) (sym is) ∙ queues_answered w command now new reply made)
     where
-      by_ask : (a : Ask) → ask ≡ a → queue_laws.answers a (done.Stored number receipt) ≡ true → has_receipt k (row_of number new.parts.queues.rows) ≡ (if receipt == k then 1 else 0)
-      by_ask (queue_asks.Put queue delay ttl text about) asks answers = ap (has_receipt k) (stored_row queue delay ttl text about number receipt asks is)
+      by_ask : (a : Ask) → ask ≡ a → queue_laws.answers a (done.Stored number receipt) ≡ true
+          → has_receipt k (row_of number new.parts.queues.rows) ≡ (if receipt == k then 1 else 0)
+      by_ask (queue_asks.Put queue delay ttl text about) asks answers =
+          ap (has_receipt k) (stored_row queue delay ttl text about number receipt asks is)
       by_ask a asks answers = absurd (cc)
 
   tellings : Tells new.parts.queues.rows reply answer
@@ -192,15 +208,19 @@ module _ (events : List Event) (w : World) (command : Command) (now : ℕ) (new 
       let moves = moves_little w.parts.queues ask m new.parts.queues answer made.queues in
       births_push n
       ∙ ap (λ k. k + (if born n answer then 1 else 0)) (h.births n)
-      ∙ ap (λ b. once_below w.parts.queues.next_number n + (if b then 1 else 0)) (gives_numbers w.parts.queues ask m new.parts.queues answer h.whole made.queues n)
-      ∙ more_below w.parts.queues.next_number new.parts.queues.next_number n (omega (arith, h.whole.numbers)) moves.numbers
+      ∙ ap (λ b. once_below w.parts.queues.next_number n + (if b then 1 else 0))
+      (gives_numbers w.parts.queues ask m new.parts.queues answer h.whole made.queues n)
+      ∙ more_below w.parts.queues.next_number new.parts.queues.next_number n (omega (arith, h.whole.numbers))
+      moves.numbers
 
   receipts_after : (k : ℕ) → receipts k more ≡ once_below new.parts.queues.next_receipt k
   receipts_after k =
       let moves = moves_little w.parts.queues ask m new.parts.queues answer made.queues in
       sum_by_push (λ (x : Event). gives k x) events e
-      ∙ ap (λ j. receipts k events + j) (tellings.receipts k ∙ gives_receipts w.parts.queues ask m new.parts.queues answer h.whole made.queues k)
-      ∙ ap (λ j. j + (if nat_le w.parts.queues.next_receipt k && nat_lt k new.parts.queues.next_receipt then 1 else 0)) (h.receipts k)
+      ∙ ap (λ j. receipts k events + j) (tellings.receipts k
+      ∙ gives_receipts w.parts.queues ask m new.parts.queues answer h.whole made.queues k)
+      ∙ ap (λ j. j + (if nat_le w.parts.queues.next_receipt k && nat_lt k new.parts.queues.next_receipt then 1 else 0))
+      (h.receipts k)
       ∙ more_below w.parts.queues.next_receipt new.parts.queues.next_receipt k h.whole.receipts moves.receipts
 
   once : (n : ℕ) → births n more ≤ 1
@@ -213,14 +233,17 @@ module _ (events : List Event) (w : World) (command : Command) (now : ℕ) (new 
   last_hold_is : (n : ℕ) → last_hold n more ≡ held_after (last_hold n events) (hold_given n m ask answer)
   last_hold_is n =
       fold_push (λ held (x : Event). held_after held ((signs x).hold n)) None events e
-      ∙ ap (held_after (last_hold n events)) (hold_as_told w.parts n m command reply ask answer made.asked (tellings.lists n))
+      ∙ ap (held_after (last_hold n events)) (hold_as_told w.parts n m command reply ask answer made.asked
+      (tellings.lists n))
 
   removed_is : (n : ℕ) → was_removed n more ≡ (was_removed n events || removes n m w.parts.queues.rows ask)
   removed_is n =
-      or_push (list_any (λ (x : Event). (signs x).removes n)) (λ (x : Event). (signs x).removes n) refl (λ x xs. refl) events e
+      or_push (list_any (λ (x : Event). (signs x).removes n)) (λ (x : Event). (signs x).removes n) refl (λ x xs. refl)
+      events e
       ∙ ap (λ r. was_removed n events || r) (removes_as_told w.parts n m command reply ask made.asked)
 
-  not_removed : (n : ℕ) → was_removed n events ≡ false → removes n m w.parts.queues.rows ask ≡ false → was_removed n more ≡ false
+  not_removed : (n : ℕ) → was_removed n events ≡ false → removes n m w.parts.queues.rows ask ≡ false
+      → was_removed n more ≡ false
   not_removed n before by = removed_is n ∙ ap (λ r. r || removes n m w.parts.queues.rows ask) before ∙ by
 
   -- the birth of a message stays
@@ -231,9 +254,11 @@ module _ (events : List Event) (w : World) (command : Command) (now : ℕ) (new 
   still_one n some = omega (arith, some, once n, births_push n)
 
   expiry_then : (n : ℕ) → births n events ≡ 1 → is_before new.last (expiry_of n more) ≡ is_before m (expiry_of n events)
-  expiry_then n some = ap (λ k. is_before k (expiry_of n more)) made.last ∙ ap (λ b. is_before m (expiry_by b)) (born_then n some)
+  expiry_then n some = ap (λ k. is_before k (expiry_of n more)) made.last
+      ∙ ap (λ b. is_before m (expiry_by b)) (born_then n some)
 
-  seen_unborn : (n : ℕ) → seen n w.parts.queues ≡ Unborn → IsSeenBy n events w.last Unborn → IsSeenBy n more new.last (newly w.parts.queues m ask answer n)
+  seen_unborn : (n : ℕ) → seen n w.parts.queues ≡ Unborn → IsSeenBy n events w.last Unborn
+      → IsSeenBy n more new.last (newly w.parts.queues m ask answer n)
   seen_unborn n is was =
       elim (told.new n) [
         | inl nothing ↦ subst (IsSeenBy n more new.last) (sym nothing.comes) (
@@ -266,7 +291,8 @@ module _ (events : List Event) (w : World) (command : Command) (now : ℕ) (new 
             stays = not_removed n was.2 none.removed;
           }
 
-  seen_row : (n : ℕ) (row : Message) → row_of n w.parts.queues.rows ≡ Some row → IsTold n events row → IsSeenBy n more new.last (goes_on w.parts.queues m ask answer n (Stands row))
+  seen_row : (n : ℕ) (row : Message) → row_of n w.parts.queues.rows ≡ Some row → IsTold n events row
+      → IsSeenBy n more new.last (goes_on w.parts.queues m ask answer n (Stands row))
   seen_row n row found was = by_test (is_live m row) refl
     where
       told : TellsOfMessages w.parts.queues m ask new.parts.queues answer
@@ -279,7 +305,8 @@ module _ (events : List Event) (w : World) (command : Command) (now : ℕ) (new 
           → goes_on w.parts.queues m ask answer n (Stands row)
           ≡ (if not alive then Ended Expired else ended_or ending (Stands (answered m ask answer row)))
       goes alive ending is gone =
-          ap (λ b. if not b then Ended Expired else ended_or (ends ask answer row) (Stands (answered m ask answer row))) is
+          ap (λ b. if not b then Ended Expired else ended_or (ends ask answer row)
+          (Stands (answered m ask answer row))) is
           ∙ ap (λ e. if not alive then Ended Expired else ended_or e (Stands (answered m ask answer row))) gone
 
       by_ending : (ending : Option Ending) → is_live m row ≡ true → ends ask answer row ≡ ending
@@ -295,9 +322,11 @@ module _ (events : List Event) (w : World) (command : Command) (now : ℕ) (new 
           }
       by_ending (Some Deleted) alive is = (
         still_one n was.born,
-        removed_is n ∙ ap (λ r. r || removes n m w.parts.queues.rows ask) was.stays ∙ sym (told.removed n row found alive) ∙ ap is_removal is,
+        removed_is n ∙ ap (λ r. r || removes n m w.parts.queues.rows ask) was.stays
+            ∙ sym (told.removed n row found alive) ∙ ap is_removal is,
       )
-      by_ending (Some (Completed invocation)) alive is = absurd (not_completed (ends_plainly ask answer row (Completed invocation) plain is))
+      by_ending (Some (Completed invocation)) alive is =
+          absurd (not_completed (ends_plainly ask answer row (Completed invocation) plain is))
         where
           not_completed : Completed invocation ≡ Deleted → ⊥
           not_completed same = cc
@@ -310,7 +339,8 @@ module _ (events : List Event) (w : World) (command : Command) (now : ℕ) (new 
           not_expired : Expired ≡ Deleted → ⊥
           not_expired same = cc
 
-      by_test : (alive : Bool) → is_live m row ≡ alive → IsSeenBy n more new.last (goes_on w.parts.queues m ask answer n (Stands row))
+      by_test : (alive : Bool) → is_live m row ≡ alive → IsSeenBy n more new.last
+          (goes_on w.parts.queues m ask answer n (Stands row))
       by_test false over =
           subst (IsSeenBy n more new.last) (sym (goes false (ends ask answer row) over refl)) (record {
             born = still_one n was.born;
@@ -318,10 +348,16 @@ module _ (events : List Event) (w : World) (command : Command) (now : ℕ) (new 
             stays = not_removed n was.stays (told.dead n row found over).0;
           })
       by_test true alive =
-          subst (IsSeenBy n more new.last) (sym (goes true (ends ask answer row) alive refl)) (by_ending (ends ask answer row) alive refl)
+          subst (IsSeenBy n more new.last) (sym (goes true (ends ask answer row) alive refl))
+          (by_ending (ends ask answer row) alive refl)
 
-  seen_ended : (n : ℕ) (ending : Ending) → seen n w.parts.queues ≡ Ended ending → IsSeenBy n events w.last (Ended ending) → IsSeenBy n more new.last (Ended ending)
-  seen_ended n Deleted is was = (still_one n was.0, removed_is n ∙ ap (λ r. r || removes n m w.parts.queues.rows ask) was.1)
+  seen_ended : (n : ℕ) (ending : Ending) → seen n w.parts.queues ≡ Ended ending
+      → IsSeenBy n events w.last (Ended ending) → IsSeenBy n more new.last (Ended ending)
+  seen_ended n Deleted is was = (
+    still_one n was.0,
+    removed_is n
+        ∙ ap (λ r. r || removes n m w.parts.queues.rows ask) was.1,
+  )
   seen_ended n (Completed invocation) is was = absurd was
   seen_ended n (Moved copy) is was = absurd was
   seen_ended n Expired is was =
@@ -329,15 +365,18 @@ module _ (events : List Event) (w : World) (command : Command) (now : ℕ) (new 
       record {
         born = still_one n was.born;
         over = expiry_then n was.born ∙ expired_later w.last m (expiry_of n events) (omega arith) was.over;
-        stays = not_removed n was.stays (told.none n (no_row n w.parts.queues (Ended Expired) is (λ row stands. cc))).removed;
+        stays = not_removed n was.stays (told.none n
+            (no_row n w.parts.queues (Ended Expired) is (λ row stands. cc))).removed;
       }
 
   seen_after : (n : ℕ) → IsSeenBy n more new.last (seen n new.parts.queues)
   seen_after n =
-      subst (IsSeenBy n more new.last) (sym (goes_as_answered w.parts.queues ask m new.parts.queues answer h.whole made.queues n))
+      subst (IsSeenBy n more new.last) (sym
+      (goes_as_answered w.parts.queues ask m new.parts.queues answer h.whole made.queues n))
       (by_seen (seen n w.parts.queues) refl (h.seen n))
     where
-      by_seen : (s : Seen) → seen n w.parts.queues ≡ s → IsSeenBy n events w.last s → IsSeenBy n more new.last (goes_on w.parts.queues m ask answer n s)
+      by_seen : (s : Seen) → seen n w.parts.queues ≡ s → IsSeenBy n events w.last s
+          → IsSeenBy n more new.last (goes_on w.parts.queues m ask answer n s)
       by_seen Unborn is was = seen_unborn n is was
       by_seen (Stands row) is was = seen_row n row (row_seen n w.parts.queues row is) was
       by_seen (Ended ending) is was = seen_ended n ending is was
@@ -346,14 +385,17 @@ module _ (events : List Event) (w : World) (command : Command) (now : ℕ) (new 
   told_after = record { whole = whole_after; births = births_after; receipts = receipts_after; seen = seen_after }
 
 -- what the reply tells, and the row of a message that is put
-pub reply_as_told : (events : List Event) (w : World) (command : Command) (now : ℕ) (new : World) (reply : Reply) → Told events w → (made : Made w command now new reply) → Tells new.parts.queues.rows reply made.done.queues
+pub reply_as_told : (events : List Event) (w : World) (command : Command) (now : ℕ) (new : World) (reply : Reply)
+    → Told events w → (made : Made w command now new reply) → Tells new.parts.queues.rows reply made.done.queues
 reply_as_told events w command now new reply h made = tellings events w command now new reply h made
 
 pub told_kept : IsKept Told
 told_kept = told_after
 
 -- a message that was born is born once and for all
-pub born_stays : (events : List Event) (w : World) (command : Command) (now : ℕ) (new : World) (reply : Reply) → Told events w → Made w command now new reply → (n : ℕ) → births n events ≡ 1 → births n (events ++ event w command now reply new ∷ []) ≡ 1
+pub born_stays : (events : List Event) (w : World) (command : Command) (now : ℕ) (new : World) (reply : Reply)
+    → Told events w → Made w command now new reply → (n : ℕ) → births n events ≡ 1
+    → births n (events ++ event w command now reply new ∷ []) ≡ 1
 born_stays events w command now new reply h made n some = still_one events w command now new reply h made n some
 
 nothing_below_1 : (k : ℕ) → ◌≡◌ {A = ℕ} 0 (once_below 1 k)

@@ -183,7 +183,8 @@ unless_untimed (Some timer) given = given
 abbrev pub asked_of : Parts → Command → ℕ → Asked
 asked_of parts (Note function container blob) m =
     asked_by parts function
-    (unless_missing (blob_of container blob parts.blobs.blobs) (AsksAll (asks_in parts (Note function container blob) m)))
+    (unless_missing (blob_of container blob parts.blobs.blobs)
+    (AsksAll (asks_in parts (Note function container blob) m)))
 asked_of parts (Unnoted function container) m =
     asked_by parts function (Reads (replies.Unnoted (unnoted parts.blobs (number_in parts.work function) container)))
 asked_of parts (Arm function) m =

@@ -32,7 +32,8 @@ unless_taken false grant = grant
 -- the end of the last grant of lease x to holder h, where nothing behind it took the lease away
 abbrev pub last_grant : List ℕ → ℕ → List Event → Option ℕ
 last_grant x h events =
-    fold (λ grant e. unless_taken (is_taken_by x h e.command) (newer grant (granted_by x h e.command e.reply))) None events
+    fold (λ grant e. unless_taken (is_taken_by x h e.command) (newer grant (granted_by x h e.command e.reply)))
+    None events
 
 -- h holds lease x at t
 abbrev pub holds : List ℕ → ℕ → List Event → ℕ → Bool

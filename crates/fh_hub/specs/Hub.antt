@@ -60,7 +60,8 @@ MayStandFor torn history failed entries file =
 -- where its disk tells, a hub keeps its history, and where it is torn perhaps this failed entry behind it
 abbrev pub KeepsIn : {D : Type 0} {J : Ghosts D} → Hub D J → Entry → Type 0
 KeepsIn {D} {J} hub failed =
-    KeepsHistory (J.told hub.journal.disk.now) (J.may_leave hub.journal.disk.now) hub.journal.torn hub.state.history failed hub.journal.gate
+    KeepsHistory (J.told hub.journal.disk.now) (J.may_leave hub.journal.disk.now)
+    hub.journal.torn hub.state.history failed hub.journal.gate
 
 -- where its disk tells, a crash leaves what reads give and nothing else
 abbrev pub IsDurable : {D : Type 0} {J : Ghosts D} → Hub D J → Type 0
@@ -69,7 +70,8 @@ IsDurable {D} {J} hub = OnlyTold (J.told hub.journal.disk.now) (J.may_leave hub.
 -- where its disk tells, a crash at any moment since the old one leaves a file that has P
 abbrev pub LeavesSince : {D : Type 0} {J : Ghosts D} → Hub D J → Hub D J → (List ℕ → Type 0) → Type 0
 LeavesSince {D} {J} old new P =
-    IfSome (J.told old.journal.disk.now) (λ _. LeavesOnly J.moment J.left_since old.journal.disk.now new.journal.disk.now P)
+    IfSome (J.told old.journal.disk.now) (λ _. LeavesOnly J.moment J.left_since old.journal.disk.now
+    new.journal.disk.now P)
 
 -- where a disk tells, each file that a crash since the old one may leave is an image from then, or has P
 abbrev pub NewImagesHave : {D : Type 0} → Ghosts D → D → D → (List ℕ → Type 0) → Type 0

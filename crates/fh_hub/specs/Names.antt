@@ -37,7 +37,8 @@ has_good_settings settings = true
 
 -- a function, and what else its command names
 abbrev pub has_good_function : Command → Bool
-has_good_function (Note function container blob) = is_plain_name function && (is_queue_name container && is_blob_name blob)
+has_good_function (Note function container blob) =
+    is_plain_name function && (is_queue_name container && is_blob_name blob)
 has_good_function (Configure function settings) = is_plain_name function && has_good_settings settings
 has_good_function (Unnoted function container) = is_plain_name function && is_queue_name container
 has_good_function command = true

@@ -67,7 +67,8 @@ one_if false = 0
 -- in how many of the four places the message is
 abbrev pub places : ℕ → List Event → World → ℕ → ℕ
 places n events w t =
-    one_if (is_waiting n w t) + one_if (is_held n events w t) + one_if (was_removed n events) + one_if (has_expired n events t)
+    one_if (is_waiting n w t) + one_if (is_held n events w t) + one_if (was_removed n events) + one_if
+    (has_expired n events t)
 
 -- a message that was born is in exactly one place, and one without expiry has never expired; what isn't born
 -- is nowhere
@@ -80,7 +81,8 @@ pub record IsInOnePlace (history : List Entry) (n t : ℕ) : Type 0 where
 -- or how it went, or that it isn't born
 pub record IsPlace (n : ℕ) (events : List Event) (w : World) (t : ℕ) (answer : Place) : Type 0 where
   pub waiting : (is_waiting n w t ≡ true) ↔ (answer ≡ place.Waiting (queue_of n events))
-  pub held : (end : ℕ) → ((is_held n events w t ≡ true) × (last_hold n events ≡ Some end)) ↔ (answer ≡ place.Held (queue_of n events) end)
+  pub held : (end : ℕ) → ((is_held n events w t ≡ true) × (last_hold n events ≡ Some end)) ↔
+      (answer ≡ place.Held (queue_of n events) end)
   pub removed : (was_removed n events ≡ true) ↔ (answer ≡ place.Deleted)
   pub expired : (has_expired n events t ≡ true) ↔ (answer ≡ place.Expired)
   pub unknown : (births n events ≡ 0) ↔ (answer ≡ place.Unknown)

@@ -22,7 +22,8 @@ entry_at s command now = entry_for command (effective_moment (world_of s) now)
 -- the step that asks of the stores come to, by a command that acts at this moment
 abbrev pub step_of_asks : HubState → Command → Asks → ℕ → Stepped
 step_of_asks s command asks m =
-    judged (world_of s) m (length (entry m command)) (too_full (parts_of s.stores) asks m) (outcomes (parts_of s.stores) asks m)
+    judged (world_of s) m (length (entry m command)) (too_full (parts_of s.stores) asks m)
+    (outcomes (parts_of s.stores) asks m)
 
 -- the change is what the machine makes of this entry
 abbrev pub IsPlannedAs : HubState → Change → Entry → Type 0
@@ -32,7 +33,8 @@ IsPlannedAs s change e = IsPlanned s (changed (parts_of s.stores) change.stores)
 pub record IsChangeFor (s : HubState) (stepped : Stepped) (e : Entry) (change : Change) : Type 0 where
   pub steps :
       stepped
-      ≡ recorded (world_of s) e.moment (length (bytes_of e)) (changed (parts_of s.stores) change.stores) (answered change.stores)
+      ≡ recorded (world_of s) e.moment (length (bytes_of e)) (changed (parts_of s.stores) change.stores)
+      (answered change.stores)
   pub moment : change.moment ≡ e.moment
   pub planned : IsPlannedAs s change e
 

@@ -70,7 +70,8 @@ abbrev pub event_of : World → Command → ℕ → Stepped → List Event
 event_of w command m (Refused rule) = []
 event_of w command m (Read reply) = []
 event_of w command m (Quieted reply) = []
-event_of w command m (Recorded new reply) = record { before = w; command = command; moment = m; reply = reply; after = new } ∷ []
+event_of w command m (Recorded new reply) =
+    record { before = w; command = command; moment = m; reply = reply; after = new } ∷ []
 
 abbrev pub trace_from : World → List Entry → List Event
 trace_from w [] = []

@@ -113,18 +113,21 @@ of_all (Quiets done) = Quiets (done_with done)
 of_all (Makes made done) = Makes (parts_with made) (done_with done)
 
 -- what asks others is judged before them: its rule refuses whatever theirs is
-abbrev pub led_by : {Part Other Done More : Type 0} → Judged Part Done → Judged Other More → Judged (Part × Other) (Done × More)
+abbrev pub led_by : {Part Other Done More : Type 0} → Judged Part Done → Judged Other More
+    → Judged (Part × Other) (Done × More)
 led_by (Refuses rule) others = Refuses rule
 led_by judged others = both judged others
 
 -- refused by the work's rule, or by the first of the others, quiet where a store is, and else a change of all
-abbrev pub joined : Judged WorkPart WorkDone → Judged TimerPart TimerDone → Judged QueuePart QueueDone → Judged BlobPart BlobDone → Judged LeasePart LeaseDone → Judged Parts Done
+abbrev pub joined : Judged WorkPart WorkDone → Judged TimerPart TimerDone → Judged QueuePart QueueDone
+    → Judged BlobPart BlobDone → Judged LeasePart LeaseDone → Judged Parts Done
 joined of_work of_timers of_queues of_blobs of_leases =
     of_all (led_by of_work (both of_timers (both of_queues (both of_blobs of_leases))))
 
 unfoldable pub outcomes : Parts → Asks → ℕ → Judged Parts Done
 outcomes parts asks m =
-    joined (work.outcome parts.work (others_of parts) asks.work m) (timers.outcome parts.timers (asked_timers parts asks) m)
+    joined (work.outcome parts.work (others_of parts) asks.work m)
+    (timers.outcome parts.timers (asked_timers parts asks) m)
     (queues.outcome parts.queues (asked_queues parts asks) m) (blobs.outcome parts.blobs asks.blobs m)
     (leases.outcome parts.leases asks.leases m)
 

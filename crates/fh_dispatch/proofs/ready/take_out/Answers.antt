@@ -7,10 +7,13 @@ use Rattle.fh_dispatch.proofs.Jobs.{ordered-filter}
 use Rattle.fh_dispatch.proofs.ready.take_out.Goals as goal
 
 pub returns-clause-jobs : goal.returns-clause-jobs
-returns-clause-jobs c = filter_same _ (λ (job : ReadyJob). not (job.function == c.args.function)) _ (λ job b f' called. search rules) _ _ c.retain.ensures.filtered
+returns-clause-jobs c = filter_same _ (λ (job : ReadyJob). not (job.function == c.args.function)) _
+    (λ job b f' called. search rules) _ _ c.retain.ensures.filtered
 
 pub returns-clause-ordered : goal.returns-clause-ordered
 returns-clause-ordered c =
     let kept : c.retain.new.self.items ≡ without_jobs_of c.args.function c.args.jobs.now.items
-    = filter_same _ (λ (job : ReadyJob). not (job.function == c.args.function)) _ (λ job b f' called. search rules) _ _ c.retain.ensures.filtered in
-    rw kept (ordered-filter (λ (job : ReadyJob). not (job.function == c.args.function)) c.args.jobs.now.items c.requires)
+    = filter_same _ (λ (job : ReadyJob). not (job.function == c.args.function)) _ (λ job b f' called. search rules)
+    _ _ c.retain.ensures.filtered in
+    rw kept (ordered-filter (λ (job : ReadyJob). not (job.function == c.args.function))
+    c.args.jobs.now.items c.requires)

@@ -16,7 +16,8 @@ invariant_of-self c =
     let number : run.invocation ≡ length functions + 1 = c.requires.number
     ∙ sym (ap (λ (s : InvocationsState). s.next) c.self.view_is) in
     let pushed : c.push-added.new.self.items ≡ functions ++ run.function ∷ [] = search rules in
-    let key = subst (λ (k : ℕ). HasKey run.invocation k dues c.set_key.new.dues) c.key_of.ensures c.set_key.ensures.key in
+    let key = subst (λ (k : ℕ). HasKey run.invocation k dues c.set_key.new.dues)
+    c.key_of.ensures c.set_key.ensures.key in
     let room : 1 ≤ c.self.inside.room = search rules in
     let long : length c.push-added.new.self.items ≡ length functions + 1 = ap length pushed
     ∙ length-append functions (run.function ∷ []) in

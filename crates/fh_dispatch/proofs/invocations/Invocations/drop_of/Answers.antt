@@ -13,12 +13,14 @@ invariant_of-self c =
     let rows = c.self.inside.rows.rows in
     let dues = c.self.inside.dues in
     let was = c.self.invariant in
-    let keys = subst (λ (gone : List Running). HasNoKeys gone dues c.clear_keys.new.dues) c.all_at.ensures c.clear_keys.ensures.keys in
+    let keys = subst (λ (gone : List Running). HasNoKeys gone dues c.clear_keys.new.dues)
+    c.all_at.ensures c.clear_keys.ensures.keys in
     record {
       indexed =
           subst (λ (rows : List Running). IsIndexed rows functions c.clear_keys.new.dues)
           (sym c.remove_all.ensures.rows)
-          (indexed-dropped rows functions dues was.indexed c.args.function c.clear_keys.new.dues c.clear_keys.ensures.len keys);
+          (indexed-dropped rows functions dues was.indexed c.args.function c.clear_keys.new.dues
+          c.clear_keys.ensures.len keys);
       keys = omega (arith, was.keys, c.clear_keys.ensures.len);
       rows_room = omega (arith, was.rows_room, c.remove_all.ensures.room);
       functions_room = was.functions_room;

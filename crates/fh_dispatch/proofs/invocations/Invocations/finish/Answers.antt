@@ -29,7 +29,8 @@ invariant_of-self c =
     record {
       indexed =
           subst (λ (rows : List Running). IsIndexed rows functions c.set_key.new.dues) (sym after)
-          (indexed-without rows functions dues was.indexed i c.set_key.new.dues c.set_key.ensures.len c.set_key.ensures.key);
+          (indexed-without rows functions dues was.indexed i c.set_key.new.dues c.set_key.ensures.len
+          c.set_key.ensures.key);
       keys = omega (arith, was.keys, c.set_key.ensures.len);
       rows_room = omega (arith, was.rows_room, c.remove.ensures.room);
       functions_room = was.functions_room;

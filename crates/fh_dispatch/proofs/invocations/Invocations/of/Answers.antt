@@ -7,5 +7,6 @@ pub returns : goal.returns
 returns c =
     let indexed = c.self.invariant.indexed in
     c.all_at.ensures
-    ∙ sym (rows_at-function c.self.inside.functions.items c.self.inside.rows.rows indexed.ordered indexed.known c.args.function)
+    ∙ sym (rows_at-function c.self.inside.functions.items c.self.inside.rows.rows indexed.ordered indexed.known
+    c.args.function)
     ∙ ap (λ (s : InvocationsState). runs_of c.args.function s.running) c.self.view_is

@@ -35,7 +35,8 @@ invariant_of-self c =
     record {
       indexed =
           subst (λ (rows : List Running). IsIndexed rows functions c.set_key.new.dues) (sym after)
-          (indexed-renewed rows functions dues was.indexed i c.args.receipt c.args.due run here c.set_key.new.dues c.set_key.ensures.len key);
+          (indexed-renewed rows functions dues was.indexed i c.args.receipt c.args.due run here c.set_key.new.dues
+          c.set_key.ensures.len key);
       keys = omega (arith, was.keys, c.set_key.ensures.len);
       rows_room = omega (arith, was.rows_room, c.change.ensures.room);
       functions_room = was.functions_room;

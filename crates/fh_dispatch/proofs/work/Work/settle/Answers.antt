@@ -17,11 +17,13 @@ act-requires c =
 pub loop-act-preserved : goal.loop-act-preserved
 loop-act-preserved c =
     let at = c.loop-act in
-    let steps : into_iter_items at.act-iterator ≡ c.in-Some.act ∷ into_iter_items c.next.new.self = c.in-Some.ensures.steps.0 in
+    let steps : into_iter_items at.act-iterator ≡ c.in-Some.act ∷ into_iter_items c.next.new.self =
+    c.in-Some.ensures.steps.0 in
     let gone = c.in-Some.ensures.steps.1 in
     let short = ap length steps in
     record {
-      left = ap (λ (p : WorkPart). by_acts p (into_iter_items c.next.new.self)) c.act.ensures.part ∙ sym (ap (by_acts at.self.part) steps) ∙ at.invariant.left;
+      left = ap (λ (p : WorkPart). by_acts p (into_iter_items c.next.new.self)) c.act.ensures.part
+          ∙ sym (ap (by_acts at.self.part) steps) ∙ at.invariant.left;
       len = omega (arith, at.invariant.len, gone, short);
       room = omega (arith, at.invariant.room, c.act.ensures.room, short);
       job_room = omega (arith, at.invariant.job_room, c.act.ensures.job_room, short);

@@ -8,4 +8,5 @@ use Rattle.fh_hub.proofs.asking.Asked.of.Goals as goal
 pub returns-in-Note : goal.returns-in-Note
 unfolding asked
 returns-in-Note c =
-    subst (λ (command : Command). IfOk c.noting.result (λ a. asked_as a ≡ asked (parts_of c.args.stores.now) command c.args.m)) (sym c.in-Note.is) c.noting.ensures
+    subst (λ (command : Command). IfOk c.noting.result
+    (λ a. asked_as a ≡ asked (parts_of c.args.stores.now) command c.args.m)) (sym c.in-Note.is) c.noting.ensures

@@ -22,15 +22,19 @@ returns-clause-ok c =
     let size : ℕ = length (entry m command) in
     let after : Parts = changed w.parts c.in_ok-stores.stores in
     let answer : Done = answered c.in_ok-stores.stores in
-    let done : outcomes w.parts all m ≡ Makes after answer = grind (arith, common_steps, c.is_quiet.ensures.loud w.parts) in
-    let unfull : full_rule w.gate size (too_full w.parts all m) ≡ None = grind (arith, common_steps, c.full_rule.ensures size (c.entry_size.ensures.size m)) in
+    let done : outcomes w.parts all m ≡ Makes after answer =
+    grind (arith, common_steps, c.is_quiet.ensures.loud w.parts) in
+    let unfull : full_rule w.gate size (too_full w.parts all m) ≡ None =
+    grind (arith, common_steps, c.full_rule.ensures size (c.entry_size.ensures.size m)) in
     let fit = fits w.gate size (too_full w.parts all m) unfull in
-    let records = made_is_recorded w m size (too_full w.parts all m) (outcomes w.parts all m) after answer done unfull in
+    let records = made_is_recorded w m size (too_full w.parts all m) (outcomes w.parts all m)
+    after answer done unfull in
     record {
       steps = records;
       moment = refl;
       planned = record {
-        steps = step_is_at w command m (search rules) c.requires.own_moment ∙ step_at_asks w command m all c.requires.asks ∙ records;
+        steps = step_is_at w command m (search rules) c.requires.own_moment
+            ∙ step_at_asks w command m all c.requires.asks ∙ records;
         own_moment = c.requires.own_moment;
         outcome = record { command = command; asks = all; moment = m; asked = c.requires.asks; is = done };
         masks = masks_by_asks w.parts command m all c.requires.asks (search rules);
@@ -60,6 +64,8 @@ returns-in-Some-clause-err c =
     let size : ℕ = length (entry m c.args.command.now) in
     let after : Parts = changed w.parts c.in_ok-stores.stores in
     let answer : Done = answered c.in_ok-stores.stores in
-    let done : outcomes w.parts all m ≡ Makes after answer = grind (arith, common_steps, c.is_quiet.ensures.loud w.parts) in
-    let full : full_rule w.gate size (too_full w.parts all m) ≡ Some c.in-Some.rule = grind (arith, common_steps, c.full_rule.ensures size (c.entry_size.ensures.size m)) in
+    let done : outcomes w.parts all m ≡ Makes after answer =
+    grind (arith, common_steps, c.is_quiet.ensures.loud w.parts) in
+    let full : full_rule w.gate size (too_full w.parts all m) ≡ Some c.in-Some.rule =
+    grind (arith, common_steps, c.full_rule.ensures size (c.entry_size.ensures.size m)) in
     made_is_refused w m size (too_full w.parts all m) (outcomes w.parts all m) after answer c.in-Some.rule done full

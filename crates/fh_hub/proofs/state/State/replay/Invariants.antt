@@ -9,7 +9,8 @@ use Rattle.fh_hub.proofs.state.State.replay.Given as goal
 abbrev pub invariant-loop-frame : goal.invariant-loop-frame
 invariant-loop-frame l = record {
   whole : payloads_of l.self.history ++ payloads_in (into_iter_items l.frame-iterator) ≡ payloads_in l.fn.frames.items;
-  follow : into_iter_items l.frame-iterator ≡ frames_from (length (opened (payloads_of l.self.history))) (payloads_in (into_iter_items l.frame-iterator));
+  follow : into_iter_items l.frame-iterator ≡ frames_from (length (opened (payloads_of l.self.history)))
+      (payloads_in (into_iter_items l.frame-iterator));
   len : into_iter_len l.frame-iterator ≡ length (into_iter_items l.frame-iterator);
   idle : IsIdle l.self;
   faithful : IsFaithful l.self;

@@ -24,27 +24,69 @@ returns-clause-history g c =
 pub invariant_of-self : goal.invariant_of-self
 invariant_of-self g c =
     let payload : List ℕ = c.args.staged.payload in
-    let before : HubState = record { stores = c.self.inside.stores; last = c.self.inside.last; gate = c.self.inside.gate; history = c.self.inside.history.entries; room = c.self.inside.history.room } in
-    let new : HubState = record { stores = c.settle-done.new.self; last = c.ms-self-inside.result; gate = c.gate_behind-self-inside.result; history = c.add.new.self.entries; room = c.add.new.self.room } in
+    let before : HubState = record {
+      stores = c.self.inside.stores;
+      last = c.self.inside.last;
+      gate =
+          c.self.inside.gate;
+      history = c.self.inside.history.entries;
+      room = c.self.inside.history.room;
+    } in
+    let new : HubState = record {
+      stores = c.settle-done.new.self;
+      last = c.ms-self-inside.result;
+      gate =
+          c.gate_behind-self-inside.result;
+      history = c.add.new.self.entries;
+      room = c.add.new.self.room;
+    } in
     let parts : Parts = made before.stores c.args.staged.stores in
     let did : Done = made_done before.stores c.args.staged.stores in
-    let planned : IsPlanned before parts did g.e = subst (λ (s : HubState). IsPlanned s (made s.stores c.args.staged.stores) (made_done s.stores c.args.staged.stores) g.e) (sym c.self.view_is) c.requires.planned in
+    let planned : IsPlanned before parts did g.e = subst
+    (λ (s : HubState). IsPlanned s (made s.stores c.args.staged.stores) (made_done s.stores c.args.staged.stores)
+    g.e) (sym c.self.view_is) c.requires.planned in
     let parts_is : parts ≡ parts_of new.stores = sym c.settle-done.ensures.parts in
     let size_is : length (bytes_of g.e) ≡ length payload = ap length (sym c.requires.spelled.spelling) in
     let gate_is : new.gate ≡ gate_behind before.gate (length payload) = grind (arith, common_steps) in
-    let grows : new.history ≡ before.history ++ g.e ∷ [] = c.add.ensures ∙ ap (λ (e : Entry). before.history ++ e ∷ []) (entry_is payload g.e c.requires.spelled) in
+    let grows : new.history ≡ before.history ++ g.e ∷ [] = c.add.ensures
+    ∙ ap (λ (e : Entry). before.history ++ e ∷ []) (entry_is payload g.e c.requires.spelled) in
     let out = planned.outcome in
     let plain = plain_outcome (parts_of before.stores) parts did out in
-    let moves = moves_little before.stores.queues.part (asked_queues (parts_of before.stores) out.asks) out.moment parts.queues did.queues (all_make (parts_of before.stores) out.asks out.moment parts did out.is).queues in
-    let pushed : payloads_of new.history ≡ payloads_of before.history ++ payload ∷ [] = ap payloads_of grows ∙ payloads_push before.history g.e ∙ ap (λ (p : List ℕ). payloads_of before.history ++ p ∷ []) (sym c.requires.spelled.spelling) in
-    let given = receipts_within before.gate (length payload) before.stores.queues.part.next_receipt parts.queues.next_receipt (begins before c.self.invariant) c.self.invariant.receipt (omega (arith, moves.receipt, few_receipts (asked_queues (parts_of before.stores) out.asks) plain)) in
-    let versions = versions_within (parts_of before.stores) parts did before.gate (length payload) out c.self.invariant.version in
-    let works = works_within (parts_of before.stores) parts did before.gate (length payload) out c.self.invariant.function c.self.invariant.session in
+    let moves = moves_little before.stores.queues.part (asked_queues (parts_of before.stores) out.asks)
+    out.moment parts.queues did.queues (all_make (parts_of before.stores)
+    out.asks out.moment parts did out.is).queues in
+    let pushed : payloads_of new.history ≡ payloads_of before.history ++ payload ∷ [] = ap payloads_of grows
+    ∙ payloads_push before.history g.e ∙ ap (λ (p : List ℕ). payloads_of before.history ++ p ∷ [])
+    (sym c.requires.spelled.spelling) in
+    let given = receipts_within before.gate (length payload)
+    before.stores.queues.part.next_receipt parts.queues.next_receipt (begins before c.self.invariant)
+    c.self.invariant.receipt (omega (
+      arith,
+      moves.receipt,
+      few_receipts (asked_queues (parts_of before.stores) out.asks) plain,
+    )) in
+    let versions = versions_within (parts_of before.stores) parts did before.gate (length payload)
+    out c.self.invariant.version in
+    let works = works_within (parts_of before.stores) parts did before.gate (length payload)
+    out c.self.invariant.function c.self.invariant.session in
     record {
-      place = omega (arith, gate_is, c.self.invariant.place, ap (λ (ps : List (List ℕ)). length (opened ps)) pushed, gate_push (payloads_of before.history) payload);
+      place = omega (
+        arith,
+        gate_is,
+        c.self.invariant.place,
+        ap (λ (ps : List (List ℕ)). length (opened ps)) pushed,
+        gate_push (payloads_of before.history) payload,
+      );
       within = rw (gate_is, ← size_is) (goes_within before.gate (length (bytes_of g.e)) planned.room);
       timed = c.ms-self-inside.ensures.range;
-      number = omega (arith, gate_is, moves.number, few_numbers (asked_queues (parts_of before.stores) out.asks) plain, ap (λ (p : Parts). p.queues.next_number) parts_is, c.self.invariant.number);
+      number = omega (
+        arith,
+        gate_is,
+        moves.number,
+        few_numbers (asked_queues (parts_of before.stores) out.asks) plain,
+        ap (λ (p : Parts). p.queues.next_number) parts_is,
+        c.self.invariant.number,
+      );
       receipt = rw gate_is (omega (arith, given, ap (λ (p : Parts). p.queues.next_receipt) parts_is));
       version = omega (arith, gate_is, versions, ap (λ (p : Parts). p.blobs.next_version) parts_is);
       function = omega (arith, gate_is, works.functions, ap (λ (p : Parts). p.work.next_function) parts_is);
@@ -53,6 +95,15 @@ invariant_of-self g c =
 
 pub returns-clause-faithful : goal.returns-clause-faithful
 returns-clause-faithful g c faithful =
-    let new : HubState = record { stores = c.settle-done.new.self; last = c.ms-self-inside.result; gate = c.gate_behind-self-inside.result; history = c.add.new.self.entries; room = c.add.new.self.room } in
+    let new : HubState = record {
+      stores = c.settle-done.new.self;
+      last = c.ms-self-inside.result;
+      gate =
+          c.gate_behind-self-inside.result;
+      history = c.add.new.self.entries;
+      room = c.add.new.self.room;
+    } in
     faithful_push c.args.self.now new g.e c.reply_of.result faithful (returns-clause-history g c) (search rules)
-    (legal_planned c.args.self.now (made c.args.self.now.stores c.args.staged.stores) (made_done c.args.self.now.stores c.args.staged.stores) c.args.staged.payload g.e faithful c.requires.planned c.requires.spelled)
+    (legal_planned c.args.self.now (made c.args.self.now.stores c.args.staged.stores)
+    (made_done c.args.self.now.stores c.args.staged.stores)
+    c.args.staged.payload g.e faithful c.requires.planned c.requires.spelled)
