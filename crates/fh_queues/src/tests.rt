@@ -344,6 +344,24 @@ fn put_of<'a>(queue: QueueName, text: &'a Text, about: Option<&'a About>) -> Que
     }
 }
 
+// Puts a message that lives for a second.
+fn put_for_a_second(
+    rt: &(impl Abort + AllocGlobal),
+    queues: &mut Queues,
+    queue: QueueName,
+    text: &Text,
+    about: Option<&About>,
+) -> Result<QueueDone, PlanFault>
+    requires { IsIdle queues.old }
+    ensures { IsIdle queues.new }
+{
+    let Some(start) = Moment::new(0) else {
+        return Err(PlanFault::NoMemory);
+    };
+    let put = put_of(queue, text, about);
+    done(rt, queues, &put, start)
+}
+
 #[test]
 fn a_text_has_65536_bytes_at_most(rt: HostRuntime) -> Result<(), Fail> {
     let start = moment(0)?;
@@ -351,8 +369,8 @@ fn a_text_has_65536_bytes_at_most(rt: HostRuntime) -> Result<(), Fail> {
     answer(&rt, &mut queues, &Step::Make, start)?;
     for (size, expected) in [(65536, "ok 1 1"), (65537, "no 3 TooLarge 65537 65536")] {
         let text = Text::new("x".repeat(rt.alloc(), size)?);
-        let put = put_of(orders()?, &text, None);
-        let line = line(rt.alloc(), done(&rt, &mut queues, &put, start))?;
+        let told = put_for_a_second(&rt, &mut queues, orders()?, &text, None);
+        let line = line(rt.alloc(), told)?;
         assert_eq!(rt; line.as_str(), expected);
     }
     Ok(())
@@ -370,8 +388,7 @@ fn a_row_keeps_its_blob_while_it_is_live(rt: HostRuntime) -> Result<(), Fail> {
     let start = moment(0)?;
     let mut queues = Queues::new(rt.alloc());
     answer(&rt, &mut queues, &Step::Make, start)?;
-    let put = put_of(orders()?, &text, Some(&about));
-    done(&rt, &mut queues, &put, start)?;
+    put_for_a_second(&rt, &mut queues, orders()?, &text, Some(&about))?;
     let kept = queues.row(1, start).and_then(|row| row.about.get());
     let Some(kept) = kept else {
         return Err("the message is about a blob".into());
@@ -437,20 +454,53 @@ fn make_of<'a>(queue: QueueName) -> QueueAsk<'a> {
     QueueAsk::Make { queue }
 }
 
+// Lets go that a queue is made.
+fn let_make_go(
+    rt: &(impl Abort + AllocGlobal),
+    queues: &mut Queues,
+    queue: QueueName,
+) -> Result<(), Fail>
+    requires { IsIdle queues.old }
+    ensures { IsIdle queues.new }
+{
+    let make = make_of(queue);
+    let_go(rt, queues, &make, moment(0)?)?;
+    Ok(())
+}
+
+// The same, and a put, where message 1 is held.
+fn make_keeps(
+    rt: &(impl Abort + AllocGlobal),
+    queues: &mut Queues,
+    queue: QueueName,
+) -> Result<(), Fail>
+    requires { IsIdle queues.old }
+    ensures { IsIdle queues.new }
+{
+    let make = make_of(queue);
+    keeps_the_queues(rt, queues, &make)
+}
+
+fn put_keeps(rt: &(impl Abort + AllocGlobal), queues: &mut Queues) -> Result<(), Fail>
+    requires { IsIdle queues.old }
+    ensures { IsIdle queues.new }
+{
+    let text = Text::from_str(rt.alloc(), "a")?;
+    let put = ask_of(orders()?, &PUT_HI, &text);
+    keeps_the_queues(rt, queues, &put)
+}
+
 #[test]
 fn what_is_let_go_leaves_the_queues(rt: HostRuntime) -> Result<(), Fail> {
-    let text = Text::from_str(rt.alloc(), "a")?;
     let other = QueueName::read("other").ok_or("a queue's name")?;
     let start = moment(0)?;
     let mut queues = Queues::new(rt.alloc());
-    let make = make_of(other);
-    let_go(&rt, &mut queues, &make, start)?;
+    let_make_go(&rt, &mut queues, other)?;
     assert!(rt; !queues.has_queue(&other));
     hold_one(&rt, &mut queues)?;
-    let put = ask_of(orders()?, &PUT_HI, &text);
-    keeps_the_queues(&rt, &mut queues, &put)?;
+    put_keeps(&rt, &mut queues)?;
     let_each_go(&rt, &mut queues)?;
-    keeps_the_queues(&rt, &mut queues, &make)?;
+    make_keeps(&rt, &mut queues, other)?;
     assert!(rt; !queues.has_queue(&other));
     let next = answer(&rt, &mut queues, &PUT_HI, start)?;
     assert_eq!(rt; next.as_str(), "ok 2 3");

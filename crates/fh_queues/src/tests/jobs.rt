@@ -394,13 +394,25 @@ fn a_thousand_outputs_are_sent_at_once(rt: HostRuntime) -> Result<(), Fail> {
     Ok(())
 }
 
+// Lets the completion of message 1 go, with these outputs.
+fn completion_keeps(
+    rt: &(impl Abort + AllocGlobal),
+    queues: &mut Queues,
+    outputs: &Outputs,
+) -> Result<(), Fail>
+    requires { IsIdle queues.old }
+    ensures { IsIdle queues.new }
+{
+    let ask = completion(Some(held(1, 2)), outputs);
+    keeps_the_queues(rt, queues, &ask)
+}
+
 #[test]
 fn a_completion_that_is_let_go_sends_nothing(rt: HostRuntime) -> Result<(), Fail> {
     let mut queues = Queues::new(rt.alloc());
     hold_one(&rt, &mut queues)?;
     let outputs = outputs(rt.alloc(), "mail", "orders")?;
-    let ask = completion(Some(held(1, 2)), &outputs);
-    keeps_the_queues(&rt, &mut queues, &ask)?;
+    completion_keeps(&rt, &mut queues, &outputs)?;
     let mail = QueueName::read("mail").ok_or("a queue's name")?;
     assert!(rt; !queues.has_queue(&mail));
     Ok(())
