@@ -1,6 +1,6 @@
 -- What is written is read: its head is a head of the grammar, and its length is that of the body.
 use Rattle.std.proofs.Common.{◌≡◌, ℕ, zero, suc, ◌+◌, ◌/◌, ◌%◌, ◌^◌, ◌<◌, ◌≤◌, nat_lt, Bool, true, false, ◌&&◌, IsTrue, List, [], ◌∷◌, ◌++◌, length, map, reverse, Some, Result, Ok, refl, sym, ap, ◌∙◌, arith, rules, append_assoc, append-nil, length-append}
-use Rattle.std.specs.Prelude.{All, codes}
+use Rattle.std.specs.Prelude.{All, codes, if◌then◌else◌}
 use Rattle.std.specs.Char.{is_ascii, is_ascii_digit}
 use Rattle.std.specs.Fmt.{decimal}
 use Rattle.std.specs.List.{list_all}
@@ -20,11 +20,12 @@ use Rattle.http_header.proofs.TokenLemmas.{AllPass-from_test}
 use Rattle.fh_base.specs.Numbers.{is_number, number_of}
 use Rattle.fh_wire.specs.declared.fault.WireFault.{WireFault}
 use Rattle.fh_wire.specs.declared.fields.Framing.{Framing}
-use Rattle.fh_wire.specs.Fields.{kind_of, framing}
+use Rattle.fh_wire.specs.Fields.{kind_of, framing, plain}
+use Rattle.fh_wire.specs.Messages.{ResponseIs}
 use Rattle.fh_wire.specs.Messages.RequestIs.{whole}
 use Rattle.fh_wire.specs.Messages.ResponseIs.{whole as whole_response}
 use Rattle.fh_wire.specs.Sizes.{◌>>=◌, request_needs, response_needs, body_of}
-use Rattle.fh_wire.specs.Written.{IsPath, request_text, response_text, phrase_of, PostedIsRead, AnsweredIsRead}
+use Rattle.fh_wire.specs.Written.{IsPath, request_text, response_text, full_text, bare_text, has_content, phrase_of, PostedIsRead, AnsweredIsRead}
 
 -- ---- numbers
 
@@ -303,7 +304,7 @@ response_grouped : (v n q e t u l s c d body : List ℕ)
 response_grouped v n q e t u l s c d body = simp (append_assoc, cons-append, append-nil)
 
 answered_printed : (status : ℕ) (body : List ℕ)
-    → response_text status body ≡ print_response
+    → full_text status body ≡ print_response
     (answered_head (decimal status) (phrase_of status) (decimal (length body))) ++ body
 unfolding answered_head
 answered_printed status body =
@@ -312,10 +313,11 @@ answered_printed status body =
     (codes "Connection") (codes " close") body
     ∙ sym (print_response-append (answered_head (decimal status) (phrase_of status) (decimal (length body))) body)
 
-pub answered_read : (status : ℕ) (body : List ℕ) → 100 ≤ status → status < 1000
-    → length (response_text status body) ≤ 2097152 → AnsweredIsRead status body
+full_read : (status : ℕ) (body : List ℕ) → 100 ≤ status → status < 1000
+    → length (full_text status body) ≤ 2097152
+    → ResponseIs (full_text status body) (Ok (record { status = status; body = body }))
 unfolding answered_head
-answered_read status body low high few =
+full_read status body low high few =
     let h = answered_head (decimal status) (phrase_of status) (decimal (length body)) in
     let printed = answered_printed status body in
     let counted : length (print_response h) + length body ≤ 2097152 =
@@ -343,3 +345,86 @@ answered_read status body low high few =
     ∙ ap (λ (r : Result (List ℕ) WireFault). r >>= λ read. Ok
     (record { status = digits_value 10 (decimal status); body = read })) (body_whole body)
     ∙ ap (λ (s : ℕ). Ok (record { status = s; body = body })) (digits_value-decimal own status small)))
+
+-- ---- responses without content
+
+bare_head : List ℕ → List ℕ → ResponseHead
+bare_head status phrase = record {
+  blank = [];
+  minor = 1;
+  digits = status;
+  reason = Some phrase;
+  line_end = crlf;
+  fields = close_field ∷ [];
+  last = crlf;
+}
+
+bare_is : (status phrase : List ℕ) → length status ≡ 3 → AllPass is_ascii_digit status
+    → AllPass is_value_byte phrase → IsResponseHead (bare_head status phrase)
+unfolding bare_head
+bare_is status phrase three digits passes = record {
+  minor = omega arith;
+  digits = (three, digits);
+  reason = passes;
+  fields = All-cons IsField close_field [] close_is (All-nil IsField);
+}
+
+bare_grouped : (v n q e c d : List ℕ)
+    → (((v ++ 32 ∷ []) ++ n ++ 32 ∷ [] ++ q) ++ e) ++ ((c ++ 58 ∷ d) ++ e) ++ ([] ++ e)
+    ≡ v ++ 32 ∷ (n ++ ((32 ∷ q) ++ (e ++ ((((c ++ 58 ∷ d ++ e) ++ []) ++ e) ++ []))))
+bare_grouped v n q e c d = simp (append_assoc, cons-append, append-nil)
+
+bare_printed : (status : ℕ)
+    → bare_text status ≡ print_response (bare_head (decimal status) (phrase_of status)) ++ []
+unfolding bare_head
+bare_printed status =
+    bare_grouped (print_version 1) (decimal status) (phrase_of status) (print_end crlf)
+    (codes "Connection") (codes " close")
+    ∙ sym (print_response-append (bare_head (decimal status) (phrase_of status)) [])
+
+framing_bare : framing (map name_and_value (close_field ∷ [])) ≡ plain
+unfolding kind_of
+framing_bare = refl
+
+bare_room : (head : ℕ) → head + 0 ≤ 2097152 → response_needs plain head 0 ≡ Ok 0
+bare_room head few =
+    let room : nat_lt 2097152 (head + 0) ≡ false = grind (arith, nat_tests) in
+    rw room refl
+
+bare_read : (status : ℕ) → 100 ≤ status → status < 1000 → length (bare_text status) ≤ 2097152
+    → ResponseIs (bare_text status) (Ok (record { status = status; body = [] }))
+unfolding bare_head
+bare_read status low high few =
+    let h = bare_head (decimal status) (phrase_of status) in
+    let printed = bare_printed status in
+    let counted : length (print_response h) + 0 ≤ 2097152 =
+    omega (arith, few, ap length printed, length-append (print_response h) []) in
+    let small : status < 2 ^ 64 = omega (arith, high) in
+    whole_response h []
+    (record {
+      taken = omega arith;
+      reads = (
+        bare_is (decimal status) (phrase_of status) (three_digits status low high) (all_digits status small)
+            (phrase_passes status high),
+        printed,
+      );
+      within = omega (arith, counted);
+    })
+    (sym (ap (λ (f : Framing). response_needs f (length (print_response h)) 0 >>= λ needed.
+    (body_of needed [] >>= λ read. Ok (record { status = digits_value 10 (decimal status); body = read })))
+    framing_bare
+    ∙ ap (λ (r : Result ℕ WireFault). r >>= λ needed.
+    (body_of needed [] >>= λ read. Ok (record { status = digits_value 10 (decimal status); body = read })))
+    (bare_room (length (print_response h)) counted)
+    ∙ ap (λ (s : ℕ). Ok (record { status = s; body = [] })) (digits_value-decimal own status small)))
+
+either_read : (content : Bool) (status : ℕ) (body : List ℕ) → 100 ≤ status → status < 1000
+    → length (if content then full_text status body else bare_text status) ≤ 2097152
+    → ResponseIs (if content then full_text status body else bare_text status)
+    (Ok (record { status = status; body = if content then body else [] }))
+either_read true status body low high few = full_read status body low high few
+either_read false status body low high few = bare_read status low high few
+
+pub answered_read : (status : ℕ) (body : List ℕ) → 100 ≤ status → status < 1000
+    → length (response_text status body) ≤ 2097152 → AnsweredIsRead status body
+answered_read status body low high few = either_read (has_content status) status body low high few

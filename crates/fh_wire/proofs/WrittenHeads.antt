@@ -38,6 +38,11 @@ regrouped_status : (a n b p e t l s c body : List ℕ)
     ≡ a ++ (n ++ (b ++ (p ++ ((e ++ (t ++ (e ++ l))) ++ (s ++ ((e ++ (c ++ (e ++ e))) ++ body))))))
 regrouped_status a n b p e t l s c body = simp append_assoc
 
+regrouped_bare : (a n b p e c : List ℕ)
+    → (a ++ n ++ b ++ p ++ e) ++ (c ++ e) ++ ([] ++ e)
+    ≡ a ++ (n ++ (b ++ (p ++ (e ++ (c ++ (e ++ e))))))
+regrouped_bare a n b p e c = simp append_assoc
+
 pub response_lines : (head status phrase size body : List ℕ)
     → head ≡ codes "HTTP/1.1 " ++ (status ++
     (codes " " ++ (phrase ++
@@ -54,3 +59,12 @@ response_lines head status phrase size body is =
     (crlf ++ (codes "Connection: close" ++ (crlf ++ crlf))) body
     ∙ sym (regrouped_status (codes "HTTP/1.1 ") status (codes " ") phrase crlf
     (codes "Content-Type: application/json") (codes "Content-Length: ") size (codes "Connection: close") body)
+
+-- the lines of a head without content
+pub bare_lines : (head status phrase : List ℕ)
+    → head ≡ codes "HTTP/1.1 " ++ (status ++
+    (codes " " ++ (phrase ++ (crlf ++ (codes "Connection: close" ++ (crlf ++ crlf))))))
+    → head
+    ≡ line (codes "HTTP/1.1 " ++ status ++ codes " " ++ phrase) ++ line (codes "Connection: close") ++ line []
+bare_lines head status phrase is =
+    is ∙ sym (regrouped_bare (codes "HTTP/1.1 ") status (codes " ") phrase crlf (codes "Connection: close"))

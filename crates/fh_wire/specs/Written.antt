@@ -1,5 +1,5 @@
 -- The messages that the host writes (RFC 9112, with CR LF behind each line of a head).
-use Rattle.std.specs.Prelude.{ℕ, ◌<◌, ◌≤◌, All, take, Option, Result, Ok, Err, ◌&&◌, nat_le, nat_lt, if◌then◌else◌, List, [], ◌∷◌, ◌++◌, length, codes, unwrap_or}
+use Rattle.std.specs.Prelude.{ℕ, ◌<◌, ◌≤◌, ◌==◌, Bool, not, All, take, Option, Result, Ok, Err, ◌&&◌, nat_le, nat_lt, if◌then◌else◌, List, [], ◌∷◌, ◌++◌, length, codes, unwrap_or}
 use Rattle.std.specs.Fmt.{decimal}
 use Rattle.std.specs.Io.KnownBytes.{Appends, Keeps}
 use Rattle.http.specs.StatusCode.{reason_phrase}
@@ -30,12 +30,28 @@ request_text name port body =
 abbrev pub phrase_of : ℕ → List ℕ
 phrase_of status = if nat_le 100 status && nat_lt status 1000 then unwrap_or (reason_phrase status) [] else []
 
+-- a response of status 204 has no content (RFC 9110)
+abbrev pub has_content : ℕ → Bool
+has_content status = not (status == 204)
+
+abbrev pub status_line : ℕ → List ℕ
+status_line status = line (codes "HTTP/1.1 " ++ decimal status ++ codes " " ++ phrase_of status)
+
+-- a response with its body
+abbrev pub full_text : ℕ → List ℕ → List ℕ
+full_text status body = status_line status ++ field_lines (length body) ++ body
+
+-- a response without content, and without fields that speak of it
+abbrev pub bare_text : ℕ → List ℕ
+bare_text status = status_line status ++ line (codes "Connection: close") ++ line []
+
 -- what the host answers
 abbrev pub response_text : ℕ → List ℕ → List ℕ
-response_text status body =
-    line (codes "HTTP/1.1 " ++ decimal status ++ codes " " ++ phrase_of status)
-    ++ field_lines (length body)
-    ++ body
+response_text status body = if has_content status then full_text status body else bare_text status
+
+-- the body that a response of this status carries
+abbrev pub carried : ℕ → List ℕ → List ℕ
+carried status body = if has_content status then body else []
 
 -- some bytes at the front of the text were written, but not all
 abbrev pub WritesFront : Option (List ℕ) → Option (List ℕ) → List ℕ → Type 0
@@ -64,4 +80,5 @@ PostedIsRead name port body =
 
 -- what is answered is read as this response
 abbrev pub AnsweredIsRead : ℕ → List ℕ → Type 0
-AnsweredIsRead status body = ResponseIs (response_text status body) (Ok (record { status = status; body = body }))
+AnsweredIsRead status body =
+    ResponseIs (response_text status body) (Ok (record { status = status; body = carried status body }))

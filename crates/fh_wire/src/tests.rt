@@ -310,6 +310,17 @@ fn what_is_written_is_read(rt: HostRuntime) -> Result<(), Fail> {
 }
 
 #[test]
+fn a_response_without_content(rt: HostRuntime) -> Result<(), Fail> {
+    let mut sink = MemorySink::new(rt.alloc(), no_faults(rt.alloc()));
+    assert_eq!(rt; write_response(rt.alloc(), &mut sink, 204, b""), Ok(()));
+    assert_eq!(rt;
+        sink.bytes.as_slice(),
+        b"HTTP/1.1 204 No Content\r\nConnection: close\r\n\r\n".as_slice()
+    );
+    Ok(())
+}
+
+#[test]
 fn a_failed_call_is_told(rt: HostRuntime) -> Result<(), Fail> {
     let plan = FaultPlan::new(Failing::After { passed: 0 });
     let mut source = MemorySource::new(b"GET / HTTP/1.1\r\n\r\n".to_vec(rt.alloc())?, plan);

@@ -1,7 +1,7 @@
 // The messages that the host writes.
 ghost use Rattle.std.specs.Prelude.{◌≡◌, IfOk};
 ghost use Rattle.fh_wire.specs.Causes.{HasWriteCause};
-ghost use Rattle.fh_wire.specs.Written.{request_text, response_text, phrase_of, WritesResponse};
+ghost use Rattle.fh_wire.specs.Written.{request_text, response_text, full_text, bare_text, phrase_of, WritesResponse};
 
 use crate::fault::WireFault;
 use fh_base::{NoMemory, Sink, write_all};
@@ -22,7 +22,11 @@ pub fn request_bytes(alloc: Global, name: &str, port: u16, body: &[u8]) -> Resul
     Ok(bytes)
 }
 
-/// Writes a response of this status with this body, in one piece. Where a write fails, some bytes at the
+// The status of a response without content (RFC 9110).
+const NO_CONTENT: u16 = 204;
+
+/// Writes a response of this status with this body, in one piece. A response of status 204 has no content,
+/// so its body is left out, and so are the fields that would speak of it. Where a write fails, some bytes at the
 /// front of the response are written, but not all; where memory is refused, none.
 pub fn write_response<O: Sink>(
     alloc: Global,
@@ -48,6 +52,24 @@ pub fn write_response<O: Sink>(
 
 fn response_bytes(alloc: Global, status: u16, body: &[u8]) -> Result<Vec<u8>, NoMemory>
     ensures { IfOk result (λ bytes. bytes.items ≡ response_text status body.now) }
+{
+    if status == NO_CONTENT {
+        bare_response(alloc, status)
+    } else {
+        full_response(alloc, status, body)
+    }
+}
+
+fn bare_response(alloc: Global, status: u16) -> Result<Vec<u8>, NoMemory>
+    ensures { IfOk result (λ bytes. bytes.items ≡ bare_text status) }
+{
+    let phrase = phrase_of(status);
+    let head = format!(in alloc; "HTTP/1.1 {status} {phrase}\r\nConnection: close\r\n\r\n")?;
+    Ok(head.into_bytes())
+}
+
+fn full_response(alloc: Global, status: u16, body: &[u8]) -> Result<Vec<u8>, NoMemory>
+    ensures { IfOk result (λ bytes. bytes.items ≡ full_text status body.now) }
 {
     let phrase = phrase_of(status);
     let size = body.len();

@@ -3,7 +3,7 @@ use Rattle.std.specs.Fmt.{decimal}
 use Rattle.std.specs.Prelude.{string_bytes}
 use Rattle.fh_wire.specs.Written.{phrase_of}
 use Rattle.fh_wire.proofs.WrittenHeads.{response_lines}
-use Rattle.fh_wire.proofs.written.response_bytes.Goals as goal
+use Rattle.fh_wire.proofs.written.full_response.Goals as goal
 
 pub returns : goal.returns
 returns c =
