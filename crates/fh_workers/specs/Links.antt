@@ -1,0 +1,21 @@
+-- What a link's asks leave of its requests and replies.
+use Rattle.std.specs.Prelude.{◌≡◌, ℕ, ◌≤◌, ◌⊎◌, List, [], ◌∷◌, ◌++◌, Option, Result, Ok, Err}
+use Rattle.std.specs.Option.{option_map}
+use Rattle.fh_base.specs.Faults.{Rose}
+use Rattle.fh_workers.specs.declared.link.LinkFault.{LinkFault}
+use Rattle.fh_workers.specs.declared.link.LinkFault.TheVariants.{Failed, NoMemory}
+
+-- the requests, with one more behind them
+abbrev pub with_request : List ℕ → Option (List (List ℕ)) → Option (List (List ℕ))
+with_request request = option_map (λ earlier. earlier ++ request ∷ [])
+
+-- each ask is recorded, also one that fails; want of memory alone may leave it out
+abbrev pub Records : {T : Type 0} → List ℕ → Option (List (List ℕ)) → Option (List (List ℕ)) → Result T LinkFault → Type 0
+Records request was now (Ok reply) = now ≡ with_request request was
+Records request was now (Err Failed) = now ≡ with_request request was
+Records request was now (Err NoMemory) = (now ≡ was) ⊎ (now ≡ with_request request was)
+
+-- a count never falls; an ask fails only where it rose
+pub record AskHasCause {T : Type 0} (before now : ℕ) (result : Result T LinkFault) : Type 0 where
+  pub later : before ≤ now
+  pub failed : result ≡ Err Failed → Rose before now
