@@ -1,5 +1,5 @@
 -- What a link's asks leave of its requests and replies.
-use Rattle.std.specs.Prelude.{◌≡◌, ℕ, ◌≤◌, ◌⊎◌, List, [], ◌∷◌, ◌++◌, Option, Result, Ok, Err}
+use Rattle.std.specs.Prelude.{◌≡◌, ℕ, ◌≤◌, ◌⊎◌, List, [], ◌∷◌, ◌++◌, Option, Some, None, Result, Ok, Err}
 use Rattle.std.specs.Option.{option_map}
 use Rattle.fh_base.specs.Faults.{Rose}
 use Rattle.fh_workers.specs.declared.link.LinkFault.{LinkFault}
@@ -19,3 +19,15 @@ Records request was now (Err NoMemory) = (now ≡ was) ⊎ (now ≡ with_request
 pub record AskHasCause {T : Type 0} (before now : ℕ) (result : Result T LinkFault) : Type 0 where
   pub later : before ≤ now
   pub failed : result ≡ Err Failed → Rose before now
+
+-- the replies to come once an ask failed: it takes the failure where one was to come, and no reply
+abbrev pub after_failure : List (Option (List ℕ)) → List (Option (List ℕ))
+after_failure [] = []
+after_failure (None ∷ later) = later
+after_failure (Some reply ∷ later) = Some reply ∷ later
+
+-- an ask takes the reply that it gives; want of memory may have taken the next one
+abbrev pub TakesReply : Option (List (Option (List ℕ))) → Option (List (Option (List ℕ))) → Result (List ℕ) LinkFault → Type 0
+TakesReply was now (Ok reply) = was ≡ option_map (λ later. Some reply ∷ later) now
+TakesReply was now (Err Failed) = now ≡ option_map after_failure was
+TakesReply was now (Err NoMemory) = (now ≡ was) ⊎ ((next : Option (List ℕ)) × (was ≡ option_map (λ later. next ∷ later) now))

@@ -6,5 +6,7 @@
 #![tactic(auto)]
 
 mod link;
+mod memory_link;
 
 pub use link::{Link, LinkFault};
+pub use memory_link::MemoryLink;

@@ -1,0 +1,12 @@
+-- What a link in memory holds.
+use Rattle.std.specs.Prelude.{ℕ, ◌==◌, ◌||◌, Bool, List, length, map, take, Option, Some}
+use Rattle.fh_base.specs.FaultPlan.{fails_next}
+use Rattle.fh_workers.specs.declared.memory_link.MemoryLink.{MemoryLink}
+
+-- the replies that it will still give, each cut at the most that a link gives
+abbrev pub to_come_of : MemoryLink → List (Option (List ℕ))
+to_come_of link = map (λ reply. Some (take 2097153 reply)) link.replies.items
+
+-- the next ask fails: by the plan, or because no reply is left
+abbrev pub fails_to_ask : MemoryLink → Bool
+fails_to_ask link = fails_next link.plan || (length link.replies.items == 0)
