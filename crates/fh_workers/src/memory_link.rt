@@ -99,7 +99,7 @@ fn add_request(asked: &mut Vec<Bytes>, alloc: Global, request: &[u8]) -> Result<
 }
 
 // The front of a reply, as far as a link gives it.
-fn cut(reply: Bytes) -> Bytes
+pub(crate) fn cut(reply: Bytes) -> Bytes
     ensures front { result ≡ take 2097153 reply }
     ensures bound { length result ≤ 2097153 }
 {
