@@ -4,7 +4,10 @@
 //! was asked; an ask that fails is recorded too. A `Spawner` keeps the list of its starts and counts those
 //! that no `stop_all` has followed. A `Door` keeps the list of the connections that it accepted, each with
 //! its port and the bytes that it gives. Each has a count of faults that never falls, and a call fails only
-//! where it rose. The objects in memory tell all this. Read specs/Links.antt first.
+//! where it rose. The objects in memory tell all this, and fail at the calls of their plans and where
+//! nothing is left to give. The adapters over loopback sockets and processes tell nothing but their counts
+//! and how many started workers are left; what a real peer or process does is trusted. Read
+//! specs/Links.antt first, then specs/Spawners.antt and specs/Doors.antt.
 #![tactic(auto)]
 
 mod door;
@@ -15,6 +18,7 @@ mod memory_conn;
 mod memory_door;
 mod memory_link;
 mod memory_spawner;
+mod process_spawner;
 mod spawner;
 
 pub use door::Door;
@@ -25,4 +29,5 @@ pub use memory_conn::MemoryConn;
 pub use memory_door::MemoryDoor;
 pub use memory_link::MemoryLink;
 pub use memory_spawner::MemorySpawner;
+pub use process_spawner::ProcessSpawner;
 pub use spawner::{SpawnFault, Spawner, Start};
