@@ -9,12 +9,15 @@
 #![tactic(auto)]
 
 mod act;
+mod ahead;
 mod ask;
 mod blob;
 mod blobs;
 mod change;
 mod done;
 mod laws;
+mod mark;
+mod marks;
 mod planning;
 mod receipt;
 mod rules;
