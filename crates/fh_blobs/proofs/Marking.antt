@@ -60,9 +60,11 @@ with_row_put row next part =
     record part { blobs = with_row_at (by_blob row.container row.blob) row part.blobs; next_version = next }
 
 pub without_marks-push : (c n : List ℕ) (functions : List Function) (f : Function) (marks : List Mark)
-    → without_marks c n (functions ++ f ∷ []) marks ≡ without_row_at (by_mark f.number c n) (without_marks c n functions marks)
+    → without_marks c n (functions ++ f ∷ []) marks ≡ without_row_at (by_mark f.number c n)
+        (without_marks c n functions marks)
 without_marks-push c n [] f marks = refl
-without_marks-push c n (one ∷ functions) f marks = without_marks-push c n functions f (without_row_at (by_mark one.number c n) marks)
+without_marks-push c n (one ∷ functions) f marks = without_marks-push c n functions f (without_row_at
+    (by_mark one.number c n) marks)
 
 module _ (c n : List ℕ) where
   -- the mark is of this blob
@@ -97,7 +99,8 @@ module _ (c n : List ℕ) where
       neither false = refl
   none_left (f ∷ functions) marks =
       let apart = all-left (λ mark. is_ne (by_mark f.number c n mark)) functions _
-      (list_all-passing (λ mark. is_ne (by_mark f.number c n mark)) (λ mark. is_ne (by_mark f.number c n mark)) (λ mark is. is) marks) in
+      (list_all-passing (λ mark. is_ne (by_mark f.number c n mark)) (λ mark. is_ne (by_mark f.number c n mark))
+          (λ mark is. is) marks) in
       all-two (λ mark. is_ne (by_mark f.number c n mark)) (is_left functions) (is_left (f ∷ functions)) gives _ apart
       (none_left functions (without_row_at (by_mark f.number c n) marks))
     where
@@ -112,33 +115,40 @@ module _ (c n : List ℕ) where
 
           by_tests : (a b : Bool) → is_of mark ≡ a → is_eq (nat_cmp f.number mark.function) ≡ b
               → not (a && is_among functions mark.function) ≡ true
-              → not (a && is_some (if b then Some f else row_at (λ function. nat_cmp function.number mark.function) functions)) ≡ true
+              → not (a && is_some (if b then Some f else row_at
+                  (λ function. nat_cmp function.number mark.function) functions)) ≡ true
           by_tests false b of number rest = refl
           by_tests true false of number rest = rest
           by_tests true true of number rest =
               let names = sym (is_eq-then (by_text c mark.container) (by_text n mark.blob)) ∙ of in
-              let container : c ≡ mark.container = same_text c mark.container (sym (is_eq-slice_cmp c mark.container) ∙ first_of_both _ _ names) in
-              let blob : n ≡ mark.blob = same_text n mark.blob (sym (is_eq-slice_cmp n mark.blob) ∙ second_of_both (is_eq (by_text c mark.container)) _ names) in
+              let container : c ≡ mark.container = same_text c mark.container (sym
+                  (is_eq-slice_cmp c mark.container) ∙ first_of_both _ _ names) in
+              let blob : n ≡ mark.blob = same_text n mark.blob (sym (is_eq-slice_cmp n mark.blob) ∙ second_of_both
+                  (is_eq (by_text c mark.container)) _ names) in
               let function : f.number ≡ mark.function = exact_unsigned f.number mark.function (equal _ number) in
               let here : is_eq (by_mark f.number c n mark) ≡ true =
               ap (λ k. is_eq (by_mark k c n mark)) function
               ∙ ap (λ name. is_eq (by_mark mark.function name n mark)) container
               ∙ ap (λ name. is_eq (by_mark mark.function mark.container name mark)) blob
               ∙ is_eq-then (by_function mark.function mark.container mark) (by_text mark.blob mark.blob)
-              ∙ both _ _ (is_eq-then (nat_cmp mark.function mark.function) (by_text mark.container mark.container) ∙ both _ _ (own mark.function) (itself mark.container)) (itself mark.blob) in
+              ∙ both _ _ (is_eq-then (nat_cmp mark.function mark.function) (by_text mark.container mark.container)
+                  ∙ both _ _ (own mark.function) (itself mark.container)) (itself mark.blob) in
               absurd (differs (by_mark f.number c n mark) here apart)
 
   -- where all functions are known, marks of this blob aren't left, and the others are right as before
-  module _ (part after : BlobPart) (stays : (mark : Mark) → is_of mark ≡ false → is_right part mark ≡ true → is_right after mark ≡ true) where
+  module _ (part after : BlobPart) (stays : (mark : Mark) → is_of mark ≡ false → is_right part mark ≡ true
+      → is_right after mark ≡ true) where
     stay_noted : (marks : List Mark) (functions : List Function) → are_blobs_in_order after.blobs ≡ true
         → AreNoted part marks functions → AreNoted after (without_marks c n functions marks) functions
     stay_noted marks functions blobs noted =
         let known = all-left (λ mark. is_among functions mark.function) functions marks noted.known in
-        let apart = all-two (λ (mark : Mark). is_among functions mark.function) (is_left functions) (λ mark. not (is_of mark)) not_of _ known (none_left functions marks) in
+        let apart = all-two (λ (mark : Mark). is_among functions mark.function) (is_left functions) (λ mark. not
+            (is_of mark)) not_of _ known (none_left functions marks) in
         record {
           blobs = blobs;
           order = order_left functions marks noted.order;
-          right = all-two (λ mark. not (is_of mark)) (is_right part) (is_right after) (λ mark of right. stays mark (no (is_of mark) of) right) _ apart (all-left (is_right part) functions marks noted.right);
+          right = all-two (λ mark. not (is_of mark)) (is_right part) (is_right after) (λ mark of right. stays mark
+              (no (is_of mark) of) right) _ apart (all-left (is_right part) functions marks noted.right);
           known = known;
         }
       where
@@ -146,7 +156,8 @@ module _ (c n : List ℕ) where
         no true is = cc
         no false is = refl
 
-        not_of : (mark : Mark) → is_among functions mark.function ≡ true → is_left functions mark ≡ true → not (is_of mark) ≡ true
+        not_of : (mark : Mark) → is_among functions mark.function ≡ true → is_left functions mark ≡ true → not
+            (is_of mark) ≡ true
         not_of mark among left = by_tests (is_of mark) (is_among functions mark.function) among left
           where
             by_tests : (a b : Bool) → b ≡ true → not (a && b) ≡ true → not a ≡ true
@@ -162,7 +173,8 @@ noted-put row next part marks functions noted =
     stay_noted row.container row.blob part (with_row_put row next part) stays marks functions
     (in_order-with (λ (a b : BlobRow). by_blob b.container b.blob a) blobs_total row part.blobs noted.blobs) noted
   where
-    stays : (mark : Mark) → is_of row.container row.blob mark ≡ false → is_right part mark ≡ true → is_right (with_row_put row next part) mark ≡ true
+    stays : (mark : Mark) → is_of row.container row.blob mark ≡ false → is_right part mark ≡ true → is_right
+        (with_row_put row next part) mark ≡ true
     stays mark apart right =
         ap (is_noted_there part mark.function)
         (row_at-with_other (λ (a b : BlobRow). by_blob b.container b.blob a) blobs_total row
@@ -178,7 +190,8 @@ noted-removed c n part marks functions noted =
     (in_order-without (λ (a b : BlobRow). by_blob b.container b.blob a) blobs_total
     (record { container = c; blob = n; version = 0; text = [] }) part.blobs noted.blobs) noted
   where
-    stays : (mark : Mark) → is_of c n mark ≡ false → is_right part mark ≡ true → is_right (without_blob c n part) mark ≡ true
+    stays : (mark : Mark) → is_of c n mark ≡ false → is_right part mark ≡ true → is_right
+        (without_blob c n part) mark ≡ true
     stays mark apart right =
         ap (is_noted_there part mark.function)
         (row_at-without_other (λ (a b : BlobRow). by_blob b.container b.blob a) blobs_total
@@ -239,25 +252,38 @@ module _ (receipt : Receipt) (part : BlobPart) where
   among-more number functions other among = by_test (is_eq (nat_cmp number other)) refl
     where
       by_test : (b : Bool) → is_eq (nat_cmp number other) ≡ b → is_among (with_number number functions) other ≡ true
-      by_test true is = ap is_some (row_at-with_same (λ (a b : Function). nat_cmp a.number b.number) numbers_total (record { number = number }) (record { number = other }) functions (equal _ is))
-      by_test false is = ap is_some (row_at-with_other (λ (a b : Function). nat_cmp a.number b.number) numbers_total (record { number = number }) (record { number = other }) functions is) ∙ among
+      by_test true is = ap is_some (row_at-with_same (λ (a b : Function). nat_cmp a.number b.number) numbers_total
+          (record { number = number }) (record { number = other }) functions (equal _ is))
+      by_test false is = ap is_some (row_at-with_other (λ (a b : Function). nat_cmp a.number b.number) numbers_total
+          (record { number = number }) (record { number = other }) functions is) ∙ among
 
   among-own : (number : ℕ) (functions : List Function) → is_among (with_number number functions) number ≡ true
-  among-own number functions = ap is_some (row_at-with_same (λ (a b : Function). nat_cmp a.number b.number) numbers_total (record { number = number }) (record { number = number }) functions (tied nat_cmp nat_cmp_total number))
+  among-own number functions = ap is_some (row_at-with_same
+      (λ (a b : Function). nat_cmp a.number b.number) numbers_total (record { number = number })
+      (record { number = number }) functions (tied nat_cmp nat_cmp_total number))
 
   -- a note of the version that its blob has makes its mark
   noted-mark : (marks : List Mark) (functions : List Function) → is_current part receipt ≡ true
       → AreNoted part marks functions
-      → AreNoted (with_receipt receipt part) (with_mark (mark_of receipt) marks) (with_number receipt.function functions)
+      → AreNoted (with_receipt receipt part) (with_mark (mark_of receipt) marks)
+          (with_number receipt.function functions)
   noted-mark marks functions current noted = record {
     blobs = noted.blobs;
-    order = in_order-with (λ (a b : Mark). by_mark b.function b.container b.blob a) marks_total (mark_of receipt) marks noted.order;
+    order = in_order-with (λ (a b : Mark). by_mark b.function b.container b.blob a) marks_total
+        (mark_of receipt) marks noted.order;
     right =
-        all-joined (is_right (with_receipt receipt part)) (λ mark. is_lt (by_mark receipt.function receipt.container receipt.blob mark)) (λ mark. is_gt (by_mark receipt.function receipt.container receipt.blob mark)) (mark_of receipt) marks
-        (new_right current) (all-weaker (is_right part) (is_right (with_receipt receipt part)) still_right marks noted.right);
+        all-joined (is_right (with_receipt receipt part)) (λ mark. is_lt
+            (by_mark receipt.function receipt.container receipt.blob mark)) (λ mark. is_gt
+            (by_mark receipt.function receipt.container receipt.blob mark)) (mark_of receipt) marks
+        (new_right current) (all-weaker (is_right part) (is_right
+            (with_receipt receipt part)) still_right marks noted.right);
     known =
-        let more = all-weaker (λ (mark : Mark). is_among functions mark.function) (λ mark. is_among (with_number receipt.function functions) mark.function) (λ mark is. among-more receipt.function functions mark.function is) marks noted.known in
-        all-joined (λ mark. is_among (with_number receipt.function functions) mark.function) (λ mark. is_lt (by_mark receipt.function receipt.container receipt.blob mark)) (λ mark. is_gt (by_mark receipt.function receipt.container receipt.blob mark)) (mark_of receipt) marks
+        let more = all-weaker (λ (mark : Mark). is_among functions mark.function) (λ mark. is_among
+            (with_number receipt.function functions) mark.function)
+            (λ mark is. among-more receipt.function functions mark.function is) marks noted.known in
+        all-joined (λ mark. is_among (with_number receipt.function functions) mark.function) (λ mark. is_lt
+            (by_mark receipt.function receipt.container receipt.blob mark)) (λ mark. is_gt
+            (by_mark receipt.function receipt.container receipt.blob mark)) (mark_of receipt) marks
         (among-own receipt.function functions) more;
   }
 

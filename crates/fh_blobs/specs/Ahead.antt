@@ -12,9 +12,11 @@ AreAlike rows marks many =
     → bytes_eq (slice_index_or marks k mark).blob (slice_index_or rows k row).blob ≡ true
 
 -- only noted blobs were passed over, and the marks are still those of some of the blobs
-pub record HasPassed (rows : List BlobRow) (marks : List Mark) (left : List BlobRow) (left_marks : List Mark) : Type 0 where
+pub record HasPassed (rows : List BlobRow) (marks : List Mark) (left : List BlobRow)
+    (left_marks : List Mark) : Type 0 where
   pub shorter : length left ≤ length rows
-  pub unnoted : (noted : BlobRow → Bool) → IsAhead noted rows marks → unnoted_of noted left ≡ unnoted_of noted rows
+  pub unnoted : (noted : BlobRow → Bool) → IsAhead noted rows marks
+      → unnoted_of noted left ≡ unnoted_of noted rows
   pub ahead : (noted : BlobRow → Bool) → IsAhead noted rows marks → IsAhead noted left left_marks
 
 abbrev pub behind_mark : BlobRow → List Mark → List Mark
@@ -22,7 +24,8 @@ behind_mark row [] = []
 behind_mark row (mark ∷ marks) = if bytes_eq mark.blob row.blob then marks else mark ∷ marks
 
 -- the next blob, and what is behind it: those before it are noted
-pub record IsFound (rows : List BlobRow) (marks : List Mark) (row : BlobRow) (left : List BlobRow) (left_marks : List Mark) : Type 0 where
+pub record IsFound (rows : List BlobRow) (marks : List Mark) (row : BlobRow) (left : List BlobRow)
+    (left_marks : List Mark) : Type 0 where
   pub shorter : length left < length rows
   pub unnoted :
       (noted : BlobRow → Bool) → IsAhead noted rows marks
@@ -30,4 +33,5 @@ pub record IsFound (rows : List BlobRow) (marks : List Mark) (row : BlobRow) (le
   pub ahead : (noted : BlobRow → Bool) → IsAhead noted rows marks → IsAhead noted left left_marks
 
 abbrev pub NothingIsLeft : List BlobRow → List Mark → Type 0
-NothingIsLeft rows marks = (noted : BlobRow → Bool) → IsAhead noted rows marks → unnoted_of noted rows ≡ []
+NothingIsLeft rows marks = (noted : BlobRow → Bool) → IsAhead noted rows marks
+    → unnoted_of noted rows ≡ []

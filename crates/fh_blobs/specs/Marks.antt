@@ -18,7 +18,8 @@ by_function function container mark =
 
 -- how a mark stands to a function, a container and a name
 abbrev pub by_mark : ℕ → List ℕ → List ℕ → Mark → Ordering
-by_mark function container name mark = ordering_then (by_function function container mark) (by_text mark.blob name)
+by_mark function container name mark = ordering_then (by_function function container mark)
+    (by_text mark.blob name)
 
 -- marks, the functions that they are of, and for how many more of each there is room
 pub record MarkState : Type 0 where
@@ -37,7 +38,8 @@ with_number number functions =
 -- of these functions, no mark of the blob
 abbrev pub without_marks : List ℕ → List ℕ → List Function → List Mark → List Mark
 without_marks container name functions marks =
-    fold (λ left function. without_row_at (by_mark function.number container name) left) marks functions
+    fold (λ left function. without_row_at
+        (by_mark function.number container name) left) marks functions
 
 abbrev pub mark_of : Receipt → Mark
 mark_of receipt = record { function = receipt.function; container = receipt.container; blob = receipt.blob }
@@ -48,7 +50,8 @@ is_of_version version None = false
 is_of_version version (Some row) = version == row.version
 
 abbrev pub is_current : BlobPart → Receipt → Bool
-is_current part receipt = is_of_version receipt.version (blob_of receipt.container receipt.blob part.blobs)
+is_current part receipt = is_of_version receipt.version
+    (blob_of receipt.container receipt.blob part.blobs)
 
 -- a mark is there if it is current
 abbrev pub with_mark_if : Bool → Mark → List Mark → List Mark
@@ -74,7 +77,8 @@ abbrev pub is_among : List Function → ℕ → Bool
 is_among functions number = is_some (row_at (λ function. nat_cmp function.number number) functions)
 
 abbrev pub are_marks_in_order : List Mark → Bool
-are_marks_in_order marks = are_in_order (λ (a b : Mark). by_mark b.function b.container b.blob a) marks
+are_marks_in_order marks = are_in_order
+    (λ (a b : Mark). by_mark b.function b.container b.blob a) marks
 
 abbrev pub are_blobs_in_order : List BlobRow → Bool
 are_blobs_in_order blobs = are_in_order (λ (a b : BlobRow). by_blob b.container b.blob a) blobs

@@ -41,24 +41,29 @@ module _ {Row : Type 0} (first second : Row → Row → Ordering) (total : IsTot
   behind Equal is = cc
   behind Greater is = refl
 
-  inside : (row later : Row) → ordering_then (first row later) (second row later) ≡ Less → first later like ≡ Equal → is_gt (first row like) ≡ true → ⊥
+  inside : (row later : Row) → ordering_then (first row later) (second row later) ≡ Less → first later like ≡ Equal
+      → is_gt (first row like) ≡ true → ⊥
   inside row later order here gt =
       let turned : first row like ≡ first row later =
-      total.antisymm row like ∙ ap ordering_reverse (sym (total.congr later like row here)) ∙ sym (total.antisymm row later) in
+      total.antisymm row like ∙ ap ordering_reverse (sym (total.congr later like row here)) ∙ sym
+          (total.antisymm row later) in
       not_later (first row later) (second row later) order (sym turned ∙ behind (first row like) gt)
 
-  by_first : (o : Ordering) (row later : Row) → first row later ≡ o → ordering_then o (second row later) ≡ Less → first later like ≡ Less → first row like ≡ Less
+  by_first : (o : Ordering) (row later : Row) → first row later ≡ o → ordering_then o (second row later) ≡ Less
+      → first later like ≡ Less → first row like ≡ Less
   by_first Less row later is order front = total.trans row later like is front
   by_first Equal row later is order front = total.congr row later like is ∙ front
   by_first Greater row later is order front = cc
 
-  before : (row later : Row) → ordering_then (first row later) (second row later) ≡ Less → first later like ≡ Less → first row like ≡ Less
+  before : (row later : Row) → ordering_then (first row later) (second row later) ≡ Less → first later like ≡ Less
+      → first row like ≡ Less
   before row later order front = by_first (first row later) row later refl order front
 
   part_span : IsSpan (λ a b. ordering_then (first a b) (second a b)) (λ row. first row like)
   part_span = record { inside = inside; before = before }
 
-pub containers_span : (container : List ℕ) → IsSpan (λ (a b : BlobRow). by_blob b.container b.blob a) (by_container container)
+pub containers_span : (container : List ℕ) → IsSpan (λ (a b : BlobRow). by_blob b.container b.blob a)
+    (by_container container)
 containers_span container =
     part_span (λ (a b : BlobRow). by_text a.container b.container) (λ (a b : BlobRow). by_text a.blob b.blob)
     (on_texts (λ (r : BlobRow). r.container)) (record { container = container; blob = []; version = 0; text = [] })

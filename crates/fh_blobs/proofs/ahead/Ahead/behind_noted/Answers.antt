@@ -12,5 +12,6 @@ returns c =
       unnoted = λ noted ahead.
           rw (rest_of many rows) (passed noted many rows marks ahead within.blobs within.marks within.alike).unnoted;
       ahead = λ noted ahead.
-          rw (rest_of many rows, rest_of many marks) (passed noted many rows marks ahead within.blobs within.marks within.alike).ahead;
+          rw (rest_of many rows, rest_of many marks)
+              (passed noted many rows marks ahead within.blobs within.marks within.alike).ahead;
     }
