@@ -61,7 +61,7 @@ with_row_put row next part =
 
 pub without_marks-push : (c n : List ℕ) (functions : List Function) (f : Function) (marks : List Mark)
     → without_marks c n (functions ++ f ∷ []) marks ≡ without_row_at (by_mark f.number c n)
-        (without_marks c n functions marks)
+    (without_marks c n functions marks)
 without_marks-push c n [] f marks = refl
 without_marks-push c n (one ∷ functions) f marks = without_marks-push c n functions f (without_row_at
     (by_mark one.number c n) marks)
@@ -100,7 +100,7 @@ module _ (c n : List ℕ) where
   none_left (f ∷ functions) marks =
       let apart = all-left (λ mark. is_ne (by_mark f.number c n mark)) functions _
       (list_all-passing (λ mark. is_ne (by_mark f.number c n mark)) (λ mark. is_ne (by_mark f.number c n mark))
-          (λ mark is. is) marks) in
+      (λ mark is. is) marks) in
       all-two (λ mark. is_ne (by_mark f.number c n mark)) (is_left functions) (is_left (f ∷ functions)) gives _ apart
       (none_left functions (without_row_at (by_mark f.number c n) marks))
     where
@@ -116,15 +116,15 @@ module _ (c n : List ℕ) where
           by_tests : (a b : Bool) → is_of mark ≡ a → is_eq (nat_cmp f.number mark.function) ≡ b
               → not (a && is_among functions mark.function) ≡ true
               → not (a && is_some (if b then Some f else row_at
-                  (λ function. nat_cmp function.number mark.function) functions)) ≡ true
+              (λ function. nat_cmp function.number mark.function) functions)) ≡ true
           by_tests false b of number rest = refl
           by_tests true false of number rest = rest
           by_tests true true of number rest =
               let names = sym (is_eq-then (by_text c mark.container) (by_text n mark.blob)) ∙ of in
               let container : c ≡ mark.container = same_text c mark.container (sym
-                  (is_eq-slice_cmp c mark.container) ∙ first_of_both _ _ names) in
+              (is_eq-slice_cmp c mark.container) ∙ first_of_both _ _ names) in
               let blob : n ≡ mark.blob = same_text n mark.blob (sym (is_eq-slice_cmp n mark.blob) ∙ second_of_both
-                  (is_eq (by_text c mark.container)) _ names) in
+              (is_eq (by_text c mark.container)) _ names) in
               let function : f.number ≡ mark.function = exact_unsigned f.number mark.function (equal _ number) in
               let here : is_eq (by_mark f.number c n mark) ≡ true =
               ap (λ k. is_eq (by_mark k c n mark)) function
@@ -132,7 +132,7 @@ module _ (c n : List ℕ) where
               ∙ ap (λ name. is_eq (by_mark mark.function mark.container name mark)) blob
               ∙ is_eq-then (by_function mark.function mark.container mark) (by_text mark.blob mark.blob)
               ∙ both _ _ (is_eq-then (nat_cmp mark.function mark.function) (by_text mark.container mark.container)
-                  ∙ both _ _ (own mark.function) (itself mark.container)) (itself mark.blob) in
+              ∙ both _ _ (own mark.function) (itself mark.container)) (itself mark.blob) in
               absurd (differs (by_mark f.number c n mark) here apart)
 
   -- where all functions are known, marks of this blob aren't left, and the others are right as before
@@ -143,7 +143,7 @@ module _ (c n : List ℕ) where
     stay_noted marks functions blobs noted =
         let known = all-left (λ mark. is_among functions mark.function) functions marks noted.known in
         let apart = all-two (λ (mark : Mark). is_among functions mark.function) (is_left functions) (λ mark. not
-            (is_of mark)) not_of _ known (none_left functions marks) in
+        (is_of mark)) not_of _ known (none_left functions marks) in
         record {
           blobs = blobs;
           order = order_left functions marks noted.order;
@@ -266,24 +266,24 @@ module _ (receipt : Receipt) (part : BlobPart) where
   noted-mark : (marks : List Mark) (functions : List Function) → is_current part receipt ≡ true
       → AreNoted part marks functions
       → AreNoted (with_receipt receipt part) (with_mark (mark_of receipt) marks)
-          (with_number receipt.function functions)
+      (with_number receipt.function functions)
   noted-mark marks functions current noted = record {
     blobs = noted.blobs;
     order = in_order-with (λ (a b : Mark). by_mark b.function b.container b.blob a) marks_total
         (mark_of receipt) marks noted.order;
     right =
         all-joined (is_right (with_receipt receipt part)) (λ mark. is_lt
-            (by_mark receipt.function receipt.container receipt.blob mark)) (λ mark. is_gt
-            (by_mark receipt.function receipt.container receipt.blob mark)) (mark_of receipt) marks
+        (by_mark receipt.function receipt.container receipt.blob mark)) (λ mark. is_gt
+        (by_mark receipt.function receipt.container receipt.blob mark)) (mark_of receipt) marks
         (new_right current) (all-weaker (is_right part) (is_right
-            (with_receipt receipt part)) still_right marks noted.right);
+        (with_receipt receipt part)) still_right marks noted.right);
     known =
         let more = all-weaker (λ (mark : Mark). is_among functions mark.function) (λ mark. is_among
-            (with_number receipt.function functions) mark.function)
-            (λ mark is. among-more receipt.function functions mark.function is) marks noted.known in
+        (with_number receipt.function functions) mark.function)
+        (λ mark is. among-more receipt.function functions mark.function is) marks noted.known in
         all-joined (λ mark. is_among (with_number receipt.function functions) mark.function) (λ mark. is_lt
-            (by_mark receipt.function receipt.container receipt.blob mark)) (λ mark. is_gt
-            (by_mark receipt.function receipt.container receipt.blob mark)) (mark_of receipt) marks
+        (by_mark receipt.function receipt.container receipt.blob mark)) (λ mark. is_gt
+        (by_mark receipt.function receipt.container receipt.blob mark)) (mark_of receipt) marks
         (among-own receipt.function functions) more;
   }
 

@@ -45,10 +45,10 @@ module _ {Row : Type 0} (first second : Row → Row → Ordering) (total : IsTot
       by_test : (b : Bool) → is_eq (first later like) ≡ b
           → list_all (λ after. is_lt (second row after)) (rows_at (λ r. first r like) rows) ≡ true
           → list_all (λ after. is_lt (second row after)) (if b then later ∷ rows_at
-              (λ r. first r like) rows else rows_at (λ r. first r like) rows) ≡ true
+          (λ r. first r like) rows else rows_at (λ r. first r like) rows) ≡ true
       by_test true is rest =
           both _ _ (sym (ap (λ o. is_lt (ordering_then o (second row later))) (alike row later here is))
-              ∙ first_of_both _ _ all) rest
+          ∙ first_of_both _ _ all) rest
       by_test false is rest = rest
 
   order_within : (rows : List Row) → are_in_order (λ a b. ordering_then (first a b) (second a b)) rows ≡ true
@@ -60,7 +60,7 @@ module _ {Row : Type 0} (first second : Row → Row → Ordering) (total : IsTot
       by_test : (b : Bool) → is_eq (first row like) ≡ b
           → are_in_order second (rows_at (λ r. first r like) rows) ≡ true
           → are_in_order second (if b then row ∷ rows_at (λ r. first r like) rows else rows_at
-              (λ r. first r like) rows) ≡ true
+          (λ r. first r like) rows) ≡ true
       by_test true is rest = both _ _ (before_all row is rows (first_of_both _ _ ordered)) rest
       by_test false is rest = rest
 
@@ -130,10 +130,10 @@ module _ (part : BlobPart) (f : ℕ) where
       by_found (Some other) is found =
           let same : other.blob ≡ mark.blob =
           same_text other.blob mark.blob (sym (is_eq-slice_cmp other.blob mark.blob) ∙ find-passes (λ r. is_eq
-              (by_text r.blob mark.blob)) rows other is) in
+          (by_text r.blob mark.blob)) rows other is) in
           ap (λ name. by_text row.blob name) (sym same)
           ∙ less _ (all-found (λ later. is_lt (by_name row later)) (λ r. is_eq
-              (by_text r.blob mark.blob)) rows other before is)
+          (by_text r.blob mark.blob)) rows other before is)
 
   later_marks : (row : BlobRow) (mark : Mark) → by_text row.blob mark.blob ≡ Less → (marks : List Mark)
       → list_all (λ later. is_lt (by_text mark.blob later.blob)) marks ≡ true
@@ -181,10 +181,10 @@ module _ (part : BlobPart) (f : ℕ) where
           let same = same_text mark.blob row.blob is in
           let here : is_eq (by_text row.blob mark.blob) ≡ true =
           is_eq-slice_cmp row.blob mark.blob ∙ ap (λ name. bytes_eq name mark.blob) (sym same) ∙ ap
-              (λ name. bytes_eq mark.blob name) same ∙ is in
+          (λ name. bytes_eq mark.blob name) same ∙ is in
           let behind : list_all (λ later. is_lt (by_text row.blob later.blob)) marks ≡ true =
           ap (λ name. list_all (λ (later : Mark). is_lt (by_text name later.blob)) marks) (sym same)
-              ∙ first_of_both _ _ rising in
+          ∙ first_of_both _ _ rising in
           both _ _ (first_found (is_eq (by_text row.blob mark.blob)) here (first_of_both _ _ all))
           (fewer (all-behind row rows marks behind (second_of_both _ _ all)))
       by_test fewer same_marks false apart =
@@ -194,19 +194,22 @@ module _ (part : BlobPart) (f : ℕ) where
           let before = before_found row rows mark (first_of_both _ _ order) found in
           same_marks
           (both _ _ found (all-behind row rows marks (later_marks row mark before marks (first_of_both _ _ rising))
-              (second_of_both _ _ all)))
+          (second_of_both _ _ all)))
 
   -- of a store, a container's blobs and the function's marks
   pub at_start : (c : List ℕ) (marks : List Mark) (functions : List Function) → AreNoted part marks functions
       → IsAhead noted (rows_at (by_container c) part.blobs) (rows_at (by_function f c) marks)
-  at_start c marks functions noted_marks = record { order = names; along = along (rows_at
-      (by_container c) part.blobs) names (rows_at (by_function f c) marks) rising all }
+  at_start c marks functions noted_marks = record {
+    order = names;
+    along = along (rows_at
+        (by_container c) part.blobs) names (rows_at (by_function f c) marks) rising all;
+  }
     where
       names : are_in_order by_name (rows_at (by_container c) part.blobs) ≡ true
       names =
           order_within (λ (a b : BlobRow). by_text a.container b.container) (λ (a b : BlobRow). by_text a.blob b.blob)
           (on_texts (λ (r : BlobRow). r.container))
-              (record { container = c; blob = []; version = 0; text = [] }) part.blobs noted_marks.blobs
+          (record { container = c; blob = []; version = 0; text = [] }) part.blobs noted_marks.blobs
 
       rising : are_in_order (λ (a b : Mark). by_text a.blob b.blob) (rows_at (by_function f c) marks) ≡ true
       rising =
@@ -220,13 +223,13 @@ module _ (part : BlobPart) (f : ℕ) where
           let parts = sym (is_eq-then (nat_cmp mark.function f) (by_text mark.container c)) ∙ here in
           let function : mark.function ≡ f = number mark.function f (first_of_both _ _ parts) in
           let container : mark.container ≡ c = same_text mark.container c (sym (is_eq-slice_cmp mark.container c)
-              ∙ second_of_both (is_eq (nat_cmp mark.function f)) _ parts) in
+          ∙ second_of_both (is_eq (nat_cmp mark.function f)) _ parts) in
           let same : named mark.blob (rows_at (by_container c) part.blobs) ≡ blob_of c mark.blob part.blobs =
           sym (find-both (λ (r : BlobRow). is_eq (by_container c r)) (λ r. is_eq
-              (by_text r.blob mark.blob)) part.blobs)
+          (by_text r.blob mark.blob)) part.blobs)
           ∙ find-alike (λ (r : BlobRow). is_eq (by_container c r) && is_eq (by_text r.blob mark.blob)) (λ r. is_eq
-              (by_blob c mark.blob r)) (λ r. sym (is_eq-then (by_container c r)
-              (by_text r.blob mark.blob))) part.blobs in
+          (by_blob c mark.blob r)) (λ r. sym (is_eq-then (by_container c r)
+          (by_text r.blob mark.blob))) part.blobs in
           ap (is_noted_there part f) same
           ∙ ap (λ n. is_noted_there part n (blob_of c mark.blob part.blobs)) (sym function)
           ∙ ap (λ name. is_noted_there part mark.function (blob_of name mark.blob part.blobs)) (sym container)
@@ -272,7 +275,7 @@ module _ (noted : BlobRow → Bool) where
       by_test : (go_along noted marks rows ≡ true → length marks ≤ length rows)
           → (go_along noted (mark ∷ marks) rows ≡ true → length (mark ∷ marks) ≤ length rows)
           → (b : Bool) → (if b then noted row && go_along noted marks rows else go_along noted
-              (mark ∷ marks) rows) ≡ true
+          (mark ∷ marks) rows) ≡ true
           → suc (length marks) ≤ suc (length rows)
       by_test fewer all true is = let few = fewer (second_of_both (noted row) _ is) in omega (arith, few)
       by_test fewer all false is = let few = all is in omega (arith, few)
@@ -297,13 +300,13 @@ module _ (noted : BlobRow → Bool) where
           ap (λ name. by_text row.blob name) (same_text mark.blob next.blob is)
           ∙ less _ (first_of_both (is_lt (by_name row next)) (list_all (λ after. is_lt (by_name row after)) rows)
           (first_of_both (list_all (λ after. is_lt (by_name row after)) (next ∷ rows)) (are_in_order by_name
-              (next ∷ rows)) order))
+          (next ∷ rows)) order))
       by_test on true is rest (suc j) within =
           on marks (second_of_both (noted next) (go_along noted marks rows) rest) j (omega (arith, within))
       by_test on false is rest j within =
           let few = no_more (mark ∷ marks) rows rest in
           nat_list_cmp_total.trans (slice_index_or (row ∷ next ∷ rows) j d).blob (slice_index_or
-              (next ∷ rows) j d).blob
+          (next ∷ rows) j d).blob
           (slice_index_or (mark ∷ marks) j e).blob
           (in_order-at by_name (row ∷ next ∷ rows) order j (suc j) d (omega arith) (omega (arith, few, within)))
           (on (mark ∷ marks) rest j within)
@@ -331,18 +334,24 @@ module _ (noted : BlobRow → Bool) where
           → (if b then noted row && go_along noted marks rows else go_along noted (mark ∷ marks) rows) ≡ true
           → Passed (row ∷ rows) (mark ∷ marks) (suc many)
       by_test on true is rest =
-          let behind = on (record { order = second_of_both (list_all (λ after. is_lt (by_name row after)) rows)
-              (are_in_order by_name rows) ahead.order; along = second_of_both (noted row)
-              (go_along noted marks rows) rest }) in
-          record { unnoted = behind.unnoted ∙ without (noted row) (first_of_both (noted row)
-              (go_along noted marks rows) rest); ahead = behind.ahead }
+          let behind = on (record {
+            order = second_of_both (list_all (λ after. is_lt (by_name row after)) rows)
+                (are_in_order by_name rows) ahead.order;
+            along = second_of_both (noted row)
+                (go_along noted marks rows) rest;
+          }) in
+          record {
+            unnoted = behind.unnoted ∙ without (noted row) (first_of_both (noted row)
+                (go_along noted marks rows) rest);
+            ahead = behind.ahead;
+          }
       by_test on false is rest =
           let last : many < length (mark ∷ marks) = omega (arith, few_marks) in
           let apart = behind_all row rows ahead.order (mark ∷ marks) rest many row mark last in
           let same = same_text (slice_index_or (mark ∷ marks) many mark).blob (slice_index_or
-              (row ∷ rows) many row).blob (same_names many row mark (omega arith)) in
+          (row ∷ rows) many row).blob (same_names many row mark (omega arith)) in
           absurd (itself (slice_index_or (row ∷ rows) many row).blob (ap (λ name. by_text (slice_index_or
-              (row ∷ rows) many row).blob name) (sym same) ∙ apart))
+          (row ∷ rows) many row).blob name) (sym same) ∙ apart))
         where
           itself : (name : List ℕ) → by_text name name ≡ Less → ⊥
           itself name is = not_both (by_text name name) is (nat_list_cmp_total.antisymm name name)

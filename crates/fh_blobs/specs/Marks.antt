@@ -1,4 +1,5 @@
--- Marks: which blobs a function has noted as they are. They are an index: no ask and no answer depends on them.
+-- Marks: which blobs a function has noted as they are. They are an index: no ask and no answer
+-- depends on them.
 use Rattle.std.specs.Prelude.{◌≡◌, ℕ, Bool, true, false, ◌&&◌, ◌==◌, not, if◌then◌else◌, List, [], ◌∷◌, fold, filter, Option, Some, None, is_some}
 use Rattle.std.specs.List.{list_all}
 use Rattle.std.specs.Ordering.{nat_cmp, ordering_then}
@@ -39,7 +40,7 @@ with_number number functions =
 abbrev pub without_marks : List ℕ → List ℕ → List Function → List Mark → List Mark
 without_marks container name functions marks =
     fold (λ left function. without_row_at
-        (by_mark function.number container name) left) marks functions
+    (by_mark function.number container name) left) marks functions
 
 abbrev pub mark_of : Receipt → Mark
 mark_of receipt = record { function = receipt.function; container = receipt.container; blob = receipt.blob }

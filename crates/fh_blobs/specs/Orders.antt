@@ -1,4 +1,5 @@
--- Receipts and marks have one order, and the blobs of a container and a function's marks in it stand next to each other.
+-- Receipts and marks have one order, and the blobs of a container, and a function's marks in it, stand next to
+-- each other.
 use Rattle.std.specs.Prelude.{◌≡◌, ℕ, true, List, [], refl}
 use Rattle.std.proofs.Common.{sym, ap, ◌∙◌}
 use Rattle.std.specs.Cmp.{IsTotalOrder, then_total, on_total, nat_cmp_total}
@@ -46,7 +47,7 @@ module _ {Row : Type 0} (first second : Row → Row → Ordering) (total : IsTot
   inside row later order here gt =
       let turned : first row like ≡ first row later =
       total.antisymm row like ∙ ap ordering_reverse (sym (total.congr later like row here)) ∙ sym
-          (total.antisymm row later) in
+      (total.antisymm row later) in
       not_later (first row later) (second row later) order (sym turned ∙ behind (first row like) gt)
 
   by_first : (o : Ordering) (row later : Row) → first row later ≡ o → ordering_then o (second row later) ≡ Less

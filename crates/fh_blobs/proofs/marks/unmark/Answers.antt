@@ -19,10 +19,10 @@ loop-function-preserved c =
       marks =
           c.remove.ensures.rows
           ∙ ap (λ (marks : List Mark). without_row_at
-              (by_mark here.number container name) marks) c.loop-function.invariant.marks
+          (by_mark here.number container name) marks) c.loop-function.invariant.marks
           ∙ sym (without_marks-push container name (take i functions) here c.args.marks.now.rows)
           ∙ ap (λ (some : List Function). without_marks container name some c.args.marks.now.rows) (sym
-              (take-suc functions i (record { number = 0 }) c.loop-function-test.true))
+          (take-suc functions i (record { number = 0 }) c.loop-function-test.true))
           ∙ ap (λ (k : ℕ). without_marks container name (take k functions) c.args.marks.now.rows) next;
       room = grind (arith, common_steps);
     }

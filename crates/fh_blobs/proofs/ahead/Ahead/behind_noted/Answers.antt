@@ -13,5 +13,5 @@ returns c =
           rw (rest_of many rows) (passed noted many rows marks ahead within.blobs within.marks within.alike).unnoted;
       ahead = λ noted ahead.
           rw (rest_of many rows, rest_of many marks)
-              (passed noted many rows marks ahead within.blobs within.marks within.alike).ahead;
+          (passed noted many rows marks ahead within.blobs within.marks within.alike).ahead;
     }

@@ -18,5 +18,5 @@ returns c =
           rw (c.behind_mark-marks.ensures, c.row-row.ensures)
           (behind_first noted c.in_ok-kept.kept.now c.in_ok-kept.blobs.now _
           (subst (λ (rows : List BlobRow). IsAhead noted rows c.behind_noted-ahead.result.marks.now) parts
-              (passed.ahead noted ahead)));
+          (passed.ahead noted ahead)));
     }
