@@ -13,6 +13,8 @@
 
 mod asking;
 mod asks;
+mod caller;
+mod calling;
 mod damaged;
 mod faults;
 mod history;
@@ -26,6 +28,7 @@ mod replies;
 mod state;
 mod stores;
 
+pub use caller::Caller;
 pub use damaged::write_unmounted;
 pub use faults::{HubFault, HubRule};
 pub use history::History;
