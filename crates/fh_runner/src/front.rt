@@ -94,7 +94,7 @@ fn end_of(sent: Result<(), WireFault>) -> FrontEnd
 {
     match sent {
         Ok(()) => FrontEnd::Served,
-        Err(fault) => FrontEnd::Fault(fault),
+        Err(unsent) => FrontEnd::Fault(unsent),
     }
 }
 

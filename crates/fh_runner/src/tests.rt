@@ -62,22 +62,18 @@ impl Both for MemoryConnection {
 
 const MANY: u64 = 1_000_000;
 
-// A connection that sends a request of one line and this body. So many reads of it pass, and so many writes.
+// A connection that sends this request. So many reads of it pass, and so many writes.
 fn connection(
     alloc: Global,
-    line: &str,
-    body: &str,
+    request: &str,
     reads: u64,
     writes: u64,
 ) -> Result<MemoryConnection, Fail> {
-    let size = body.len();
-    let text = format!(in alloc; "{line} HTTP/1.1\r\nContent-Length: {size}\r\n\r\n{body}")?;
+    let reading = FaultPlan::new(Failing::After { passed: reads });
+    let writing = FaultPlan::new(Failing::After { passed: writes });
     Ok(MemoryConnection {
-        source: MemorySource::new(
-            text.into_bytes(),
-            FaultPlan::new(Failing::After { passed: reads }),
-        ),
-        sink: MemorySink::new(alloc, FaultPlan::new(Failing::After { passed: writes })),
+        source: MemorySource::new(request.as_bytes().to_vec(alloc)?, reading),
+        sink: MemorySink::new(alloc, writing),
     })
 }
 
@@ -118,49 +114,55 @@ fn serve(
 #[test]
 fn a_queue_is_served_over_a_hub(rt: HostRuntime) -> Result<(), Fail> {
     let alloc = rt.alloc();
-    let table: [(&str, &str, FrontEnd, &str, &str); 6] = [
+    let table: [(&str, FrontEnd, &str, &str); 7] = [
         (
-            "PUT /queues/orders",
-            "",
+            "PUT /queues/orders HTTP/1.1\r\n\r\n",
             FrontEnd::Served,
             "201 Created",
             "{\"reply\":\"ok\"}",
         ),
         (
-            "POST /queues/orders/messages?ttl=-1",
-            "hi",
+            "POST /queues/orders/messages?ttl=-1 HTTP/1.1\r\nContent-Length: 2\r\n\r\nhi",
             FrontEnd::Served,
             "201 Created",
             "{\"reply\":\"ok 1 1\"}",
         ),
         (
-            "DELETE /queues/orders/messages/1?receipt=9",
-            "",
+            "DELETE /queues/orders/messages/1?receipt=9 HTTP/1.1\r\n\r\n",
             FrontEnd::Served,
             "400 Bad Request",
             "{\"error\":\"PopReceiptMismatch\"}",
         ),
         (
-            "GET /where/1",
-            "",
+            "GET /where/1 HTTP/1.1\r\n\r\n",
             FrontEnd::Served,
             "200 OK",
             "{\"reply\":\"is waiting orders\"}",
         ),
         (
-            "GET /orders",
-            "",
+            "GET /orders HTTP/1.1\r\n\r\n",
             FrontEnd::Served,
             "404 Not Found",
             "{\"error\":\"NoRoute\"}",
         ),
-        ("POST /admin/stop", "", FrontEnd::Stop, "202 Accepted", ""),
+        (
+            "PUT /blobs/a/b HTTP/1.1\r\nContent-Length: 5\r\n\r\nhi",
+            FrontEnd::Fault(WireFault::Cut { got: 2, needed: 5 }),
+            "400 Bad Request",
+            "{\"error\":\"Cut\"}",
+        ),
+        (
+            "POST /admin/stop HTTP/1.1\r\n\r\n",
+            FrontEnd::Stop,
+            "202 Accepted",
+            "",
+        ),
     ];
     let routes = Routes::new(alloc)?;
     let mut disk = empty_disk(alloc);
     let mut hub = mounted(alloc, &mut disk)?;
-    for (line, body, end, status, answer) in table {
-        let conn = connection(alloc, line, body, MANY, MANY)?;
+    for (request, end, status, answer) in table {
+        let conn = connection(alloc, request, MANY, MANY)?;
         let (found, written) = serve(alloc, &mut hub, &routes, conn)?;
         assert_eq!(rt; found, end);
         assert_eq!(rt;
@@ -171,41 +173,37 @@ fn a_queue_is_served_over_a_hub(rt: HostRuntime) -> Result<(), Fail> {
     Ok(())
 }
 
-// How the connection ends at which so many reads and writes pass, and how much is written.
+// How a connection ends of which so many reads and writes pass, and how many bytes were written.
 #[test]
 fn a_connection_fails_at_each_call(rt: HostRuntime) -> Result<(), Fail> {
     let alloc = rt.alloc();
+    let put = "PUT /queues/orders HTTP/1.1\r\n\r\n";
+    let stop = "POST /admin/stop HTTP/1.1\r\n\r\n";
     let table: [(&str, u64, u64, FrontEnd, usize); 6] = [
+        (put, 0, MANY, FrontEnd::Fault(WireFault::ReadFault), 0),
+        (put, 1, 0, FrontEnd::Fault(WireFault::WriteFault), 0),
         (
-            "PUT /queues/orders",
-            0,
-            MANY,
-            FrontEnd::Fault(WireFault::ReadFault),
-            0,
-        ),
-        (
-            "PUT /queues/orders",
+            "PUT / HTTP/1.1\r\n\r\n",
             1,
             0,
             FrontEnd::Fault(WireFault::WriteFault),
             0,
         ),
         (
-            "PUT /queues/orders/1",
+            "PUT HTTP/1.1\r\n\r\n",
             1,
             0,
-            FrontEnd::Fault(WireFault::WriteFault),
+            FrontEnd::Fault(WireFault::BadHead),
             0,
         ),
-        ("GET", 1, 0, FrontEnd::Fault(WireFault::BadHead), 0),
-        ("POST /admin/stop", 1, 0, FrontEnd::Stop, 0),
-        ("POST /admin/stop", 1, 1, FrontEnd::Stop, 106),
+        (stop, 1, 0, FrontEnd::Stop, 0),
+        (stop, 1, 1, FrontEnd::Stop, 95),
     ];
     let routes = Routes::new(alloc)?;
     let mut disk = empty_disk(alloc);
     let mut hub = mounted(alloc, &mut disk)?;
-    for (line, reads, writes, end, size) in table {
-        let conn = connection(alloc, line, "", reads, writes)?;
+    for (request, reads, writes, end, size) in table {
+        let conn = connection(alloc, request, reads, writes)?;
         let (found, written) = serve(alloc, &mut hub, &routes, conn)?;
         assert_eq!(rt; found, end);
         assert_eq!(rt; written.len(), size);
