@@ -74,8 +74,11 @@ module _ {D : Type 0} {J : Ghosts D} where
             two.count ∙ ap (λ (n : ℕ). count_behind n later) one.count
             ∙ sym (count_joined (faults_of old) first later);
         keeps = λ entries kept.
-            rw (failed_joined w first later,
-            ← append_assoc entries (failed w first) (failed (world_behind w first) later), ← one.world)
+            rw (
+              failed_joined w first later,
+              ← append_assoc entries (failed w first) (failed (world_behind w first) later),
+              ← one.world,
+            )
             (two.keeps (entries ++ failed w first) (one.keeps entries kept));
         same = two.same ∙ one.same;
       }
