@@ -1,5 +1,5 @@
 -- What every layer above may cite: one lemma for each law of the blobs.
-use Rattle.std.proofs.Common.{◌≡◌, ℕ, ◌+◌, ◌<◌, ◌≤◌, Bool, true, false, List, [], ◌∷◌, ◌++◌, length, filter, find, Option, Some, None, refl, sym, ap, ◌∙◌, subst, arith}
+use Rattle.std.proofs.Common.{◌≡◌, ℕ, ◌+◌, ◌≤◌, Bool, true, false, List, [], ◌∷◌, ◌++◌, length, filter, find, Option, Some, None, refl, sym, ap, ◌∙◌, subst, arith}
 use Rattle.std.specs.Prelude.{◌==◌, ◌&&◌, ◌||◌, nat_le, nat_lt, if◌then◌else◌, is_some, option_map}
 use Rattle.std.specs.List.{list_all}
 use Rattle.std.specs.Ordering.{is_lt, is_gt, is_ne, is_eq}
@@ -225,11 +225,11 @@ no_receipt part h f c b v late = by_found (find (λ row. is_eq (by_receipt f c b
         let test = second_of_both (bytes_eq row.blob b) _ (second_of_both (bytes_eq row.container c) _ (second_of_both (row.function == f) _ this)) in
         absurd (grind (arith, nat_tests, test, low, late))
 
-both : (a b : Bool) → a ≡ true → b ≡ true → (a && b) ≡ true
+pub both : (a b : Bool) → a ≡ true → b ≡ true → (a && b) ≡ true
 both a b x y = rw x y
 
 module _ {X : Type 0} (p : X → Bool) where
-  all-filter : (keeps : X → Bool) (xs : List X) → list_all p xs ≡ true → list_all p (filter keeps xs) ≡ true
+  pub all-filter : (keeps : X → Bool) (xs : List X) → list_all p xs ≡ true → list_all p (filter keeps xs) ≡ true
   all-filter keeps [] all = refl
   all-filter keeps (x ∷ xs) all = by_test (keeps x) (all-filter keeps xs (second_of_both (p x) (list_all p xs) all))
     where
@@ -241,10 +241,10 @@ module _ {X : Type 0} (p : X → Bool) where
   all-append [] ys front back = back
   all-append (x ∷ xs) ys front back = both _ _ (first_of_both (p x) (list_all p xs) front) (all-append xs ys (second_of_both (p x) (list_all p xs) front) back)
 
-  all-joined : (low high : X → Bool) (new : X) (xs : List X) → p new ≡ true → list_all p xs ≡ true → list_all p (filter low xs ++ new ∷ filter high xs) ≡ true
+  pub all-joined : (low high : X → Bool) (new : X) (xs : List X) → p new ≡ true → list_all p xs ≡ true → list_all p (filter low xs ++ new ∷ filter high xs) ≡ true
   all-joined low high new xs here all = all-append (filter low xs) (new ∷ filter high xs) (all-filter low xs all) (both _ _ here (all-filter high xs all))
 
-all-weaker : {X : Type 0} (p q : X → Bool) → ((x : X) → p x ≡ true → q x ≡ true) → (xs : List X) → list_all p xs ≡ true → list_all q xs ≡ true
+pub all-weaker : {X : Type 0} (p q : X → Bool) → ((x : X) → p x ≡ true → q x ≡ true) → (xs : List X) → list_all p xs ≡ true → list_all q xs ≡ true
 all-weaker p q gives [] all = refl
 all-weaker p q gives (x ∷ xs) all = both _ _ (gives x (first_of_both (p x) (list_all p xs) all)) (all-weaker p q gives xs (second_of_both (p x) (list_all p xs) all))
 

@@ -1,3 +1,5 @@
 pub mod Texts
 pub mod Receipts
 pub mod Lawful
+pub mod Passing
+pub mod Marking

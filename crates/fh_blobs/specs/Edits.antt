@@ -1,16 +1,19 @@
 -- Changes of the blobs, planned and staged.
-use Rattle.std.specs.Prelude.{◌≡◌, ℕ, ◌<◌, ◌≤◌, ◌^◌, List, length}
+use Rattle.std.specs.Prelude.{ℕ, ◌<◌, ◌≤◌, ◌^◌, List, length}
 use Rattle.fh_event.specs.Judging.{Quiets, Makes}
 use Rattle.fh_blobs.specs.declared.act.Act.{Act}
 use Rattle.fh_blobs.specs.declared.done.BlobDone.{BlobDone}
 use Rattle.fh_blobs.specs.declared.done.BlobDone.TheVariants.{Noted}
 use Rattle.fh_blobs.specs.Part.{BlobPart}
+use Rattle.fh_blobs.specs.Marks.{MarkState}
 use Rattle.fh_blobs.specs.Acts.{by_acts}
 use Rattle.fh_blobs.specs.Outcome.{Outcome}
 
--- what the blobs hold: their part of the world, and for how many more blobs and receipts there is room
+-- what the blobs hold: their part of the world with marks as its index, and for how many more blobs and receipts
+-- there is room
 pub record BlobState : Type 0 where
   pub part : BlobPart
+  pub marks : MarkState
   pub blob_room : ℕ
   pub receipt_room : ℕ
 
@@ -49,3 +52,5 @@ pub record IsStaged (state : BlobState) (staged : Staged) : Type 0 where
   pub few : length staged.acts < 2 ^ 63
   pub blobs : length staged.acts ≤ state.blob_room
   pub receipts : length staged.acts ≤ state.receipt_room
+  pub marks : length staged.acts ≤ state.marks.mark_room
+  pub functions : length staged.acts ≤ state.marks.function_room

@@ -1,4 +1,6 @@
 pub mod Part
+pub mod Marks
+pub mod Ahead
 pub mod Orders
 pub mod Asks
 pub mod Rules

@@ -1,15 +1,19 @@
--- Receipts have one order, and the blobs of a container stand next to each other.
-use Rattle.std.specs.Prelude.{◌≡◌, ℕ, true, List, refl}
+-- Receipts and marks have one order, and the blobs of a container, and a function's marks in it, stand next to
+-- each other.
+use Rattle.std.specs.Prelude.{◌≡◌, ℕ, true, List, [], refl}
 use Rattle.std.proofs.Common.{sym, ap, ◌∙◌}
 use Rattle.std.specs.Cmp.{IsTotalOrder, then_total, on_total, nat_cmp_total}
-use Rattle.std.specs.Cmp.Lexicographic.{nat_list_cmp_total, on_texts}
-use Rattle.std.specs.Ordering.{ordering_then, ordering_reverse, is_gt}
+use Rattle.std.specs.Cmp.Lexicographic.{on_texts}
+use Rattle.std.specs.Ordering.{nat_cmp, ordering_then, ordering_reverse, is_gt}
 use Rattle.std.specs.declared.cmp.Ordering.{Ordering}
 use Rattle.std.specs.declared.cmp.Ordering.TheVariants.{Less, Equal, Greater}
 use Rattle.fh_rows.specs.Rows.{IsSpan}
 use Rattle.fh_blobs.specs.declared.blob.BlobRow.{BlobRow}
 use Rattle.fh_blobs.specs.declared.receipt.Receipt.{Receipt}
+use Rattle.fh_blobs.specs.declared.mark.Mark.{Mark}
+use Rattle.fh_blobs.specs.declared.mark.Function.{Function}
 use Rattle.fh_blobs.specs.Part.{by_text, by_container, by_blob, by_receipt}
+use Rattle.fh_blobs.specs.Marks.{by_function, by_mark}
 
 pub receipts_total : IsTotalOrder (λ (a b : Receipt). by_receipt b.function b.container b.blob b.version a)
 receipts_total =
@@ -17,31 +21,58 @@ receipts_total =
     (then_total (on_texts (λ (r : Receipt). r.container))
     (then_total (on_texts (λ (r : Receipt). r.blob)) (on_total (λ (r : Receipt). r.version) nat_cmp_total)))
 
--- of two blobs in order, the first is in no later container
-not_later : (first second : Ordering) → ordering_then first second ≡ Less → first ≡ Greater → ⊥
-not_later Less second is behind = cc
-not_later Equal second is behind = cc
-not_later Greater second is behind = cc
+pub marks_total : IsTotalOrder (λ (a b : Mark). by_mark b.function b.container b.blob a)
+marks_total =
+    then_total (then_total (on_total (λ (m : Mark). m.function) nat_cmp_total) (on_texts (λ (m : Mark). m.container)))
+    (on_texts (λ (m : Mark). m.blob))
 
-pub containers_span : (container : List ℕ) → IsSpan (λ (a b : BlobRow). by_blob b.container b.blob a) (by_container container)
-containers_span container = record { inside = inside; before = before }
-  where
-    behind : (o : Ordering) → is_gt o ≡ true → o ≡ Greater
-    behind Less is = cc
-    behind Equal is = cc
-    behind Greater is = refl
+pub numbers_total : IsTotalOrder (λ (a b : Function). nat_cmp a.number b.number)
+numbers_total = on_total (λ (f : Function). f.number) nat_cmp_total
 
-    inside : (row later : BlobRow) → by_blob later.container later.blob row ≡ Less → by_container container later ≡ Equal → is_gt (by_container container row) ≡ true → ⊥
-    inside row later order here gt =
-        let total = nat_list_cmp_total in
-        let turned : by_text row.container container ≡ by_text row.container later.container =
-        total.antisymm row.container container ∙ ap ordering_reverse (sym (total.congr later.container container row.container here)) ∙ sym (total.antisymm row.container later.container) in
-        not_later (by_text row.container later.container) (by_text row.blob later.blob) order (sym turned ∙ behind (by_text row.container container) gt)
+-- where one order decides before another, rows that are alike by the first stand next to each other
+module _ {Row : Type 0} (first second : Row → Row → Ordering) (total : IsTotalOrder first) (like : Row) where
+  -- of two rows in order, the first is in no later part
+  not_later : (one other : Ordering) → ordering_then one other ≡ Less → one ≡ Greater → ⊥
+  not_later Less other is behind = cc
+  not_later Equal other is behind = cc
+  not_later Greater other is behind = cc
 
-    by_first : (o : Ordering) (row later : BlobRow) → by_text row.container later.container ≡ o → ordering_then o (by_text row.blob later.blob) ≡ Less → by_text later.container container ≡ Less → by_text row.container container ≡ Less
-    by_first Less row later is order front = nat_list_cmp_total.trans row.container later.container container is front
-    by_first Equal row later is order front = nat_list_cmp_total.congr row.container later.container container is ∙ front
-    by_first Greater row later is order front = cc
+  behind : (o : Ordering) → is_gt o ≡ true → o ≡ Greater
+  behind Less is = cc
+  behind Equal is = cc
+  behind Greater is = refl
 
-    before : (row later : BlobRow) → by_blob later.container later.blob row ≡ Less → by_container container later ≡ Less → by_container container row ≡ Less
-    before row later order front = by_first (by_text row.container later.container) row later refl order front
+  inside : (row later : Row) → ordering_then (first row later) (second row later) ≡ Less → first later like ≡ Equal
+      → is_gt (first row like) ≡ true → ⊥
+  inside row later order here gt =
+      let turned : first row like ≡ first row later =
+      total.antisymm row like ∙ ap ordering_reverse (sym (total.congr later like row here)) ∙ sym
+      (total.antisymm row later) in
+      not_later (first row later) (second row later) order (sym turned ∙ behind (first row like) gt)
+
+  by_first : (o : Ordering) (row later : Row) → first row later ≡ o → ordering_then o (second row later) ≡ Less
+      → first later like ≡ Less → first row like ≡ Less
+  by_first Less row later is order front = total.trans row later like is front
+  by_first Equal row later is order front = total.congr row later like is ∙ front
+  by_first Greater row later is order front = cc
+
+  before : (row later : Row) → ordering_then (first row later) (second row later) ≡ Less → first later like ≡ Less
+      → first row like ≡ Less
+  before row later order front = by_first (first row later) row later refl order front
+
+  part_span : IsSpan (λ a b. ordering_then (first a b) (second a b)) (λ row. first row like)
+  part_span = record { inside = inside; before = before }
+
+pub containers_span : (container : List ℕ) → IsSpan (λ (a b : BlobRow). by_blob b.container b.blob a)
+    (by_container container)
+containers_span container =
+    part_span (λ (a b : BlobRow). by_text a.container b.container) (λ (a b : BlobRow). by_text a.blob b.blob)
+    (on_texts (λ (r : BlobRow). r.container)) (record { container = container; blob = []; version = 0; text = [] })
+
+pub functions_span :
+    (function : ℕ) (container : List ℕ)
+    → IsSpan (λ (a b : Mark). by_mark b.function b.container b.blob a) (by_function function container)
+functions_span function container =
+    part_span (λ (a b : Mark). by_function b.function b.container a) (λ (a b : Mark). by_text a.blob b.blob)
+    (then_total (on_total (λ (m : Mark). m.function) nat_cmp_total) (on_texts (λ (m : Mark). m.container)))
+    (record { function = function; container = container; blob = [] })

@@ -1,6 +1,6 @@
 // The acts of which each change of the blobs is made.
 use crate::blob::KeptBlob;
-use crate::receipt::KeptReceipt;
+use crate::receipt::NewReceipt;
 use fh_base::{QueueName, Text};
 
 #[derive(Drop)]
@@ -9,5 +9,5 @@ pub(crate) enum Act {
     Put { blob: KeptBlob },
     Remove { container: QueueName, name: Text },
     /// The receipt is there.
-    Note { receipt: KeptReceipt },
+    Note { receipt: NewReceipt },
 }

@@ -5,16 +5,21 @@
 //! rule that refuses it. `stage` takes all memory of a change, and then `settle` makes exactly it and
 //! `unstage` makes nothing, both without memory. `get` and `unnoted` read. `laws` says that versions are given
 //! in turn, each once, that a receipt is made once and stays, and that a new version has none.
+//! Inside, marks of the blobs that a function has noted as they are let `unnoted` pass over them by halving;
+//! no clause says how long that takes, and no definition of an ask or an answer knows them.
 //! Read `specs/Part.antt`, `Acts.antt` and `Outcome.antt` first.
 #![tactic(auto)]
 
 mod act;
+mod ahead;
 mod ask;
 mod blob;
 mod blobs;
 mod change;
 mod done;
 mod laws;
+mod mark;
+mod marks;
 mod planning;
 mod receipt;
 mod rules;

@@ -8,7 +8,7 @@ ghost use Rattle.fh_blobs.specs.Faults.{IsPlanOf};
 
 use crate::act::Act;
 use crate::blob::KeptBlob;
-use crate::receipt::KeptReceipt;
+use crate::receipt::NewReceipt;
 use crate::rules::{text_rule, texts_rule};
 use crate::{BlobAsk, BlobChange, BlobDone, BlobRow, Blobs, NewBlob, Receipt};
 use fh_base::{Moment, NoMemory, QueueName, Rule, Text};
@@ -161,11 +161,11 @@ fn new_row(
     )
 }
 
-fn receipt_of(alloc: Global, function: u64, row: &BlobRow) -> Result<KeptReceipt, NoMemory>
+fn receipt_of(alloc: Global, function: u64, row: &BlobRow) -> Result<NewReceipt, NoMemory>
     ensures { IfOk result (λ kept. kept ≡ receipt_of function row.now) }
 {
     let blob = row.blob.copy(alloc)?;
-    KeptReceipt::new(
+    NewReceipt::new(
         alloc,
         Receipt {
             function,

@@ -1,6 +1,7 @@
 // The receipt of a version that a function has noted.
 ghost use Rattle.std.specs.Prelude.{◌≡◌, IfOk};
 
+use crate::mark::{KeptMark, Mark};
 use fh_base::{NoMemory, QueueName, Text};
 use fh_rows::{Key, Row};
 use std::alloc::Global;
@@ -39,10 +40,47 @@ impl KeptReceipt {
         Ok(KeptReceipt { row })
     }
 
-    fn row(&self) -> &Receipt
+    pub(crate) fn row(&self) -> &Receipt
         ensures { result.now ≡ self.now }
     {
         &self.row
+    }
+}
+
+/// A receipt that is to be made, with the memory of its mark.
+#[derive(Drop)]
+pub(crate) struct NewReceipt {
+    pub(crate) receipt: KeptReceipt,
+    pub(crate) mark: KeptMark,
+}
+
+impl Model for NewReceipt {
+    ghost use Rattle.std.specs.Prelude.{◌≡◌};
+    ghost use Rattle.fh_blobs.specs.declared.receipt.Receipt.{Receipt};
+    ghost use Rattle.fh_blobs.specs.Marks.{mark_of};
+
+    ghost Value = { Receipt };
+
+    ghost view = { λ new. new.receipt };
+
+    ghost invariant = { λ new. new.mark ≡ mark_of new.receipt };
+}
+
+impl NewReceipt {
+    pub(crate) fn new(alloc: Global, row: Receipt) -> Result<NewReceipt, NoMemory>
+        ensures { IfOk result (λ new. new ≡ row) }
+    {
+        let blob = row.blob.copy(alloc)?;
+        let mark = KeptMark::new(
+            alloc,
+            Mark {
+                function: row.function,
+                container: row.container,
+                blob,
+            },
+        )?;
+        let receipt = KeptReceipt::new(alloc, row)?;
+        Ok(NewReceipt { receipt, mark })
     }
 }
 

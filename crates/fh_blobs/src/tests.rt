@@ -107,6 +107,15 @@ fn was_there(rt: &(impl Abort + AllocGlobal), blobs: &mut Blobs, name: &str) -> 
     }
 }
 
+// The names of the blobs that the function hasn't noted, one behind the other.
+fn unnoted(rt: &(impl Abort + AllocGlobal), blobs: &Blobs) -> Result<String, Fail> {
+    let mut listed = String::new(rt.alloc());
+    for name in &blobs.unnoted(rt.alloc(), 1, &inbox()?)? {
+        listed.push_str(name.as_str())?;
+    }
+    Ok(listed)
+}
+
 #[test]
 fn a_version_is_noted_once(rt: HostRuntime) -> Result<(), Fail> {
     let mut blobs = Blobs::new(rt.alloc());
@@ -126,12 +135,20 @@ fn unnoted_blobs_are_listed_in_order(rt: HostRuntime) -> Result<(), Fail> {
         put(&rt, &mut blobs, name, "x")?;
     }
     note(&rt, &mut blobs, "b")?;
-    let names = blobs.unnoted(rt.alloc(), 1, &inbox()?)?;
-    let mut listed = String::new(rt.alloc());
-    for name in &names {
-        listed.push_str(name.as_str())?;
+    assert_eq!(rt; unnoted(&rt, &blobs)?.as_str(), "ac");
+    Ok(())
+}
+
+#[test]
+fn one_blob_is_found_beside_many_noted(rt: HostRuntime) -> Result<(), Fail> {
+    let mut blobs = Blobs::new(rt.alloc());
+    for i in 0..2_000u64 {
+        let name = format!(in rt.alloc(); "{}", i)?;
+        put(&rt, &mut blobs, name.as_str(), "x")?;
+        note(&rt, &mut blobs, name.as_str())?;
     }
-    assert_eq!(rt; listed.as_str(), "ac");
+    put(&rt, &mut blobs, "777", "y")?;
+    assert_eq!(rt; unnoted(&rt, &blobs)?.as_str(), "777");
     Ok(())
 }
 

@@ -19,3 +19,4 @@ pub mod Leasing
 pub mod Noting
 pub mod Timing
 pub mod Bringing
+pub mod OneTurn

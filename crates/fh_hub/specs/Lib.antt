@@ -20,3 +20,6 @@ pub mod Holders
 pub mod Noting
 pub mod Timing
 pub mod Bringing
+pub mod Turns
+pub mod Made
+pub mod MadeLaws

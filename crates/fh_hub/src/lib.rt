@@ -8,11 +8,14 @@
 //! exactly its own entry, and after any fault world and history are as before. At each moment of a step a
 //! crash leaves the history from before or the one with the step's entry, and after Ok that one alone.
 //! Where a step failed at its third or fourth call, the one with the failed entry stays possible until
-//! the next append has mended the journal.
+//! the next append has mended the journal. Whoever makes steps for others is a `Caller`, which says which
+//! turns it made, where it tells; a hub is one, and tells what specs/Made.antt says.
 #![tactic(auto)]
 
 mod asking;
 mod asks;
+mod caller;
+mod calling;
 mod damaged;
 mod faults;
 mod history;
@@ -26,6 +29,7 @@ mod replies;
 mod state;
 mod stores;
 
+pub use caller::Caller;
 pub use damaged::write_unmounted;
 pub use faults::{HubFault, HubRule};
 pub use history::History;

@@ -1,6 +1,5 @@
-use Rattle.std.proofs.Common.{◌≡◌, ◌∷◌, List, length, ap, arith, ◌∙◌, sym}
+use Rattle.std.proofs.Common.{◌≡◌, ◌∷◌, length, ap, arith, ◌∙◌, sym}
 use Rattle.std.specs.Vec.Iter.{into_iter_items}
-use Rattle.fh_blobs.specs.declared.act.Act.{Act}
 use Rattle.fh_blobs.specs.Part.{BlobPart}
 use Rattle.fh_blobs.specs.Acts.{by_acts}
 use Rattle.fh_blobs.proofs.blobs.Blobs.settle.Goals as goal
@@ -11,6 +10,8 @@ act-requires c =
     record {
       blobs = omega (arith, c.loop-act.invariant.blobs, steps);
       receipts = omega (arith, c.loop-act.invariant.receipts, steps);
+      marks = omega (arith, c.loop-act.invariant.marks, steps);
+      functions = omega (arith, c.loop-act.invariant.functions, steps);
       numbers = omega (arith, c.loop-act.invariant.numbers, steps);
     }
 
@@ -25,5 +26,7 @@ loop-act-preserved c =
       len = omega (arith, at.invariant.len, gone, short);
       blobs = omega (arith, at.invariant.blobs, c.act.ensures.blobs, short);
       receipts = omega (arith, at.invariant.receipts, c.act.ensures.receipts, short);
+      marks = omega (arith, at.invariant.marks, c.act.ensures.marks, short);
+      functions = omega (arith, at.invariant.functions, c.act.ensures.functions, short);
       numbers = omega (arith, at.invariant.numbers, c.act.ensures.numbers, short);
     }

@@ -9,5 +9,7 @@ invariant-loop-act l = record {
   len : into_iter_len l.act-iterator ≡ length (into_iter_items l.act-iterator);
   blobs : length (into_iter_items l.act-iterator) ≤ l.self.blob_room;
   receipts : length (into_iter_items l.act-iterator) ≤ l.self.receipt_room;
+  marks : length (into_iter_items l.act-iterator) ≤ l.self.marks.mark_room;
+  functions : length (into_iter_items l.act-iterator) ≤ l.self.marks.function_room;
   numbers : l.self.part.next_version + length (into_iter_items l.act-iterator) < 2 ^ 64;
 }
