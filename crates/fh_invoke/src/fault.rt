@@ -1,0 +1,42 @@
+// Why a reply gives no outputs.
+use fh_base::NoMemory;
+use std::alloc::{AllocError, AllocFailed};
+
+ghost use Rattle.std.specs.Prelude.{◌≡◌};
+ghost use Rattle.fh_invoke.specs.declared.fault.AnswerFault.TheVariants.{NoMemory as WantOfMemory};
+
+/// Why a reply isn't read as an answer.
+#[derive(Clone, Copy, Debug, PartialEq, Eq)]
+pub enum AnswerFault {
+    /// The status isn't one of success.
+    Status { given: u16 },
+    /// The body is there, and no JSON text.
+    NotJson,
+    /// The body is no object, or its `Outputs` are neither an object nor null.
+    NotObject,
+    NoMemory,
+}
+
+impl From<NoMemory> for AnswerFault {
+    ghost from_gives = { λ _ e. e ≡ WantOfMemory };
+
+    fn from(_refused: NoMemory) -> AnswerFault {
+        AnswerFault::NoMemory
+    }
+}
+
+impl From<AllocError> for AnswerFault {
+    ghost from_gives = { λ _ e. e ≡ WantOfMemory };
+
+    fn from(_refused: AllocError) -> AnswerFault {
+        AnswerFault::NoMemory
+    }
+}
+
+impl<T: Drop> From<AllocFailed<T>> for AnswerFault {
+    ghost from_gives = { λ _ e. e ≡ WantOfMemory };
+
+    fn from(_refused: AllocFailed<T>) -> AnswerFault {
+        AnswerFault::NoMemory
+    }
+}
