@@ -1,1 +1,5 @@
+pub mod Knowing
 pub mod Replies
+pub mod Requests
+pub mod Subjects
+pub mod Texts

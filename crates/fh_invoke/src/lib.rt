@@ -2,7 +2,13 @@
 #![tactic(auto)]
 
 mod answer;
+mod coding;
 mod fault;
+mod ids;
+mod knowing;
+mod request;
+mod subject;
 
 pub use answer::{Answer, read_answer};
 pub use fault::AnswerFault;
+pub use request::request_text;
