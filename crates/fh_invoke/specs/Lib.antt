@@ -1,4 +1,6 @@
 pub mod Knowing
+pub mod Outputs
+pub mod Printing
 pub mod Replies
 pub mod Requests
 pub mod Subjects

@@ -1,9 +1,10 @@
 // Why a reply gives no outputs.
-use fh_base::NoMemory;
+use fh_base::{NoMemory, Text};
 use std::alloc::{AllocError, AllocFailed};
 
 ghost use Rattle.std.specs.Prelude.{◌≡◌};
 ghost use Rattle.fh_invoke.specs.declared.fault.AnswerFault.TheVariants.{NoMemory as WantOfMemory};
+ghost use Rattle.fh_invoke.specs.declared.fault.OutputFault.TheVariants.{NoMemory as NoOutputMemory};
 
 /// Why a reply isn't read as an answer.
 #[derive(Clone, Copy, Debug, PartialEq, Eq)]
@@ -38,5 +39,21 @@ impl<T: Drop> From<AllocFailed<T>> for AnswerFault {
 
     fn from(_refused: AllocFailed<T>) -> AnswerFault {
         AnswerFault::NoMemory
+    }
+}
+
+/// Why an answer gives no outputs.
+#[derive(Debug, Drop)]
+pub enum OutputFault {
+    /// The template of the binding with this name doesn't resolve.
+    Expression { binding: Text },
+    NoMemory,
+}
+
+impl From<NoMemory> for OutputFault {
+    ghost from_gives = { λ _ e. e ≡ NoOutputMemory };
+
+    fn from(_refused: NoMemory) -> OutputFault {
+        OutputFault::NoMemory
     }
 }

@@ -6,9 +6,12 @@ mod coding;
 mod fault;
 mod ids;
 mod knowing;
+mod output;
+mod printing;
 mod request;
 mod subject;
 
 pub use answer::{Answer, read_answer};
-pub use fault::AnswerFault;
+pub use fault::{AnswerFault, OutputFault};
+pub use output::outputs_of;
 pub use request::request_text;
