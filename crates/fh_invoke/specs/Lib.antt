@@ -1,4 +1,5 @@
 pub mod Knowing
+pub mod Outcomes
 pub mod Outputs
 pub mod Printing
 pub mod Replies

@@ -6,6 +6,7 @@ mod coding;
 mod fault;
 mod ids;
 mod knowing;
+mod outcome;
 mod output;
 mod printing;
 mod request;
@@ -13,5 +14,6 @@ mod subject;
 
 pub use answer::{Answer, read_answer};
 pub use fault::{AnswerFault, OutputFault};
+pub use outcome::outcome_of;
 pub use output::outputs_of;
 pub use request::request_text;
