@@ -1,5 +1,5 @@
 -- What is posted has no fractions, so its text is exact.
-use Rattle.std.proofs.Common.{◌≡◌, ℕ, Bool, false, List, [], ◌∷◌, ◌||◌, refl, Some, None}
+use Rattle.std.proofs.Common.{◌≡◌, ℕ, false, List, [], ◌∷◌, ◌||◌, refl, Some, None}
 use Rattle.std.proofs.lemmas.Bool.{or_parts}
 use Rattle.std.specs.Ordering.{nat_cmp, match_ordering}
 use Rattle.std.specs.declared.cmp.Ordering.{Ordering}
@@ -10,7 +10,7 @@ use Rattle.serde_json.specs.Written.{has_float, members_have_float}
 use Rattle.fh_event.specs.declared.begun.Begun.{Begun}
 use Rattle.fh_invoke.specs.declared.subject.Subject.{Subject}
 use Rattle.fh_invoke.specs.declared.subject.Subject.TheVariants.{Bare, Queue, Blob, Timer}
-use Rattle.fh_invoke.specs.Requests.{with_names, bare_members, request_about}
+use Rattle.fh_invoke.specs.Requests.{with_names, request_about}
 
 put_at : (o : Ordering) (k l : List ℕ) (d e : Data) (ms : Members) → has_float d ≡ false
     → has_float e || members_have_float ms ≡ false → members_have_float (put k d ms) ≡ false

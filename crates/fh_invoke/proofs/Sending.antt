@@ -1,5 +1,5 @@
 -- Outputs that are pushed as long as there is room are the first ones of what is sent.
-use Rattle.std.proofs.Common.{◌≡◌, ◌<◌, ◌≤◌, ◌==◌, ℕ, true, false, zero, suc, Bool, List, [], ◌∷◌, ◌++◌, length, get_or, take, ◌+◌, arith, refl, Result, Ok, Err, sym, ap, ◌∙◌, map, drop}
+use Rattle.std.proofs.Common.{◌≡◌, ◌<◌, ◌≤◌, ◌==◌, ℕ, true, false, zero, suc, Bool, List, [], ◌∷◌, ◌++◌, length, get_or, take, ◌+◌, arith, refl, Ok, sym, ap, ◌∙◌, map, drop}
 use Rattle.std.proofs.lemmas.Bool.{true≢false}
 use Rattle.std.proofs.lemmas.Bool.Decides.{nat_tests}
 use Rattle.std.proofs.lemmas.List.{append_assoc, append-nil, drop_more}

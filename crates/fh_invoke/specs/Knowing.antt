@@ -6,15 +6,12 @@ use Rattle.serde_json.specs.Read.{read}
 use Rattle.serde_json.specs.View.{view}
 use Rattle.fh_base.specs.Times.{time_text}
 use Rattle.fh_base.specs.declared.times.TimeForm.TheVariants.{Millis, Dashed}
-use Rattle.fh_app.specs.declared.app.App.{App}
-use Rattle.fh_app.specs.declared.function.Function.{Function}
 use Rattle.fh_event.specs.declared.begun.Begun.{Begun}
 use Rattle.fh_exprs.specs.declared.values.Values.{Values}
 use Rattle.fh_invoke.specs.declared.subject.BlobPlace.{BlobPlace}
 use Rattle.fh_invoke.specs.declared.subject.QueueMessage.{QueueMessage}
 use Rattle.fh_invoke.specs.declared.subject.Subject.{Subject}
 use Rattle.fh_invoke.specs.declared.subject.Subject.TheVariants.{Bare, Queue, Blob, Timer}
-use Rattle.fh_invoke.specs.Subjects.{subject_of}
 use Rattle.fh_invoke.specs.Texts.{rand_guid}
 
 abbrev pub Names : Type 0

@@ -3,7 +3,7 @@ use Rattle.std.specs.Prelude.{ℕ, Bool, true, List, [], ◌∷◌, codes, Optio
 use Rattle.serde_json.specs.Data.{Data, null, boolean, number, string, object, Members, no_members, member, unsigned, put}
 use Rattle.serde_json.specs.Written.{compact_text}
 use Rattle.fh_base.specs.Times.{time_text}
-use Rattle.fh_base.specs.declared.times.TimeForm.TheVariants.{Offset, Millis}
+use Rattle.fh_base.specs.declared.times.TimeForm.TheVariants.{Millis}
 use Rattle.fh_app.specs.declared.app.App.{App}
 use Rattle.fh_app.specs.declared.function.Function.{Function}
 use Rattle.fh_app.specs.declared.function.Trigger.{Trigger}

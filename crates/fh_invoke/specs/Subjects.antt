@@ -1,5 +1,5 @@
 -- What an invocation is about: a queue's message, a blob or a timer's run, as its function's trigger takes it.
-use Rattle.std.specs.Prelude.{ℕ, Bool, List, [], ◌∷◌, ◌++◌, codes, Option, Some, None, option_map, option_and_then, if◌then◌else◌}
+use Rattle.std.specs.Prelude.{ℕ, Bool, List, ◌++◌, codes, Option, Some, None, option_map, option_and_then, if◌then◌else◌}
 use Rattle.std.specs.Fmt.{decimal}
 use Rattle.std.specs.Str.{bytes_eq}
 use Rattle.fh_base.specs.Times.{time_text}
@@ -12,7 +12,6 @@ use Rattle.fh_event.specs.declared.begun.BegunJob.TheVariants as job
 use Rattle.fh_exprs.specs.Layout.{Layout}
 use Rattle.fh_exprs.specs.Matching.{matched}
 use Rattle.fh_invoke.specs.declared.subject.BlobPlace.{BlobPlace}
-use Rattle.fh_invoke.specs.declared.subject.QueueMessage.{QueueMessage}
 use Rattle.fh_invoke.specs.declared.subject.Subject.{Subject}
 use Rattle.fh_invoke.specs.declared.subject.Subject.TheVariants.{Bare, Queue, Blob, Timer}
 use Rattle.fh_invoke.specs.Texts.{decoded, message_id}

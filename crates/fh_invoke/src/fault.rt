@@ -1,10 +1,10 @@
 // Why a reply gives no outputs.
-use fh_base::{NoMemory, Text};
-use std::alloc::{AllocError, AllocFailed};
-
 ghost use Rattle.std.specs.Prelude.{◌≡◌};
 ghost use Rattle.fh_invoke.specs.declared.fault.AnswerFault.TheVariants.{NoMemory as WantOfMemory};
 ghost use Rattle.fh_invoke.specs.declared.fault.OutputFault.TheVariants.{NoMemory as NoOutputMemory};
+
+use fh_base::{NoMemory, Text};
+use std::alloc::{AllocError, AllocFailed};
 
 /// Why a reply isn't read as an answer.
 #[derive(Clone, Copy, Debug, PartialEq, Eq)]

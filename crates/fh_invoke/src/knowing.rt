@@ -15,11 +15,7 @@ use std::alloc::Global;
 type Names = Vec<(Text, Text)>;
 
 /// The values that the templates of this invocation's function may name.
-pub(crate) fn values_of(
-    alloc: Global,
-    begun: &Begun,
-    subject: &Subject,
-) -> Result<Values, NoMemory>
+pub(crate) fn values_of(alloc: Global, begun: &Begun, subject: &Subject) -> Result<Values, NoMemory>
     ensures { IfOk result (Knows begun.now subject.now) }
 {
     let known = names_known(alloc, begun, subject)?;
@@ -102,12 +98,7 @@ fn add_pairs(alloc: Global, names: &mut Names, pairs: &[(Text, Text)]) -> Result
     Ok(())
 }
 
-fn add_name(
-    alloc: Global,
-    names: &mut Names,
-    name: &str,
-    text: &Text,
-) -> Result<(), NoMemory>
+fn add_name(alloc: Global, names: &mut Names, name: &str, text: &Text) -> Result<(), NoMemory>
     ensures { OnOk result (names.new.items ≡ names.old.items ++ (name.now, text.now) ∷ []) }
 {
     let name = Text::from_str(alloc, name)?;

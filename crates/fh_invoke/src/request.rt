@@ -56,12 +56,7 @@ fn request_about(
     posted(alloc, name, value, metadata)
 }
 
-fn posted(
-    alloc: Global,
-    name: &str,
-    value: Value,
-    metadata: Members,
-) -> Result<Value, NoMemory>
+fn posted(alloc: Global, name: &str, value: Value, metadata: Members) -> Result<Value, NoMemory>
     ensures { IfOk result
         (λ v. view v ≡ posted_lem name.now (view value) (members_view metadata.entries)) }
 {
@@ -160,11 +155,7 @@ fn metadata_of(alloc: Global, begun: &Begun, subject: &Subject) -> Result<Member
     }
 }
 
-fn queue_members(
-    alloc: Global,
-    begun: &Begun,
-    message: &QueueMessage,
-) -> Result<Members, NoMemory>
+fn queue_members(alloc: Global, begun: &Begun, message: &QueueMessage) -> Result<Members, NoMemory>
     ensures { IfOk result (λ m. members_view m.entries ≡ queue_members_lem begun.now message.now) }
 {
     let mut members = bare_members(alloc, begun)?;
@@ -174,7 +165,12 @@ fn queue_members(
     put_text(alloc, &mut members, "InsertionTime", &message.put_at)?;
     put_text(alloc, &mut members, "Id", &message.id)?;
     put_text(alloc, &mut members, "ExpirationTime", &message.expiry)?;
-    serde_json::put(&mut members, alloc, "DequeueCount", Value::from(message.count))?;
+    serde_json::put(
+        &mut members,
+        alloc,
+        "DequeueCount",
+        Value::from(message.count),
+    )?;
     Ok(members)
 }
 
@@ -225,11 +221,7 @@ fn sys(alloc: Global, begun: &Begun) -> Result<Value, NoMemory>
     Ok(Value::Object(sys))
 }
 
-fn put_names(
-    alloc: Global,
-    members: &mut Members,
-    names: &[(Text, Text)],
-) -> Result<(), NoMemory>
+fn put_names(alloc: Global, members: &mut Members, names: &[(Text, Text)]) -> Result<(), NoMemory>
     ensures { OnOk result
         (members_view members.new.entries ≡ with_names names.now (members_view members.old.entries)) }
 {
@@ -239,12 +231,7 @@ fn put_names(
     Ok(())
 }
 
-fn put_text(
-    alloc: Global,
-    members: &mut Members,
-    name: &str,
-    text: &Text,
-) -> Result<(), NoMemory>
+fn put_text(alloc: Global, members: &mut Members, name: &str, text: &Text) -> Result<(), NoMemory>
     ensures { OnOk result (members_view members.new.entries
         ≡ put_lem name.now (string text.now) (members_view members.old.entries)) }
 {

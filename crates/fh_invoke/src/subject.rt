@@ -62,7 +62,9 @@ pub(crate) fn subject_of(
     match trigger {
         Trigger::Queue { .. } => queue_subject(alloc, base64, job),
         Trigger::Blob {
-            container, pattern, ..
+            container,
+            pattern,
+            ..
         } => blob_subject(alloc, container, pattern, job),
         Trigger::Timer { .. } => timer_subject(alloc, job),
     }

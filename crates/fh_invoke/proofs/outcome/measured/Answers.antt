@@ -1,4 +1,4 @@
-use Rattle.std.proofs.Common.{◌≡◌, ◌∙◌, sym, refl}
+use Rattle.std.proofs.Common.{◌∙◌, sym, refl}
 use Rattle.fh_invoke.proofs.outcome.measured.Goals as goal
 
 pub returns-then-fits : goal.returns-then-fits

@@ -1,8 +1,8 @@
-use Rattle.std.proofs.Common.{◌≡◌, ◌++◌, ◌∷◌, [], ◌∙◌, refl, sym, rules, append-nil, arith, ap, map, drop, List}
+use Rattle.std.proofs.Common.{◌≡◌, ◌++◌, ◌∷◌, [], ◌∙◌, refl, append-nil, arith, ap, map, drop, List}
 use Rattle.std.proofs.lemmas.List.{drop_all}
 use Rattle.serde_json.specs.View.{view}
 use Rattle.serde_json.specs.declared.value.Value.{Value}
-use Rattle.fh_invoke.specs.Outputs.{Sent, AreFirstOf, sent_to}
+use Rattle.fh_invoke.specs.Outputs.{sent_to}
 use Rattle.fh_invoke.proofs.Sending.{sent_next}
 use Rattle.fh_invoke.proofs.output.add_each.Goals as goal
 
@@ -13,10 +13,11 @@ pub loop-value-preserved : goal.loop-value-preserved
 loop-value-preserved c = λ before are.
     let held = c.loop-value.invariant before are in
     let binding = c.args.binding.now in
-    let place = c.args.place.now in
-    (held.0 ++ sent_to binding place (view c.value-item.result ∷ []),
-    held.1 ∙ sent_next held.0 binding place c.args.given.now c.loop-value.value-index c.value-item.result c.loop-value-test.true c.value-item.is,
-    c.in_ok-add_output.ensures held.0 held.2)
+    let place = c.args.place.now in (
+      held.0 ++ sent_to binding place (view c.value-item.result ∷ []),
+      held.1 ∙ sent_next held.0 binding place c.args.given.now c.loop-value.value-index c.value-item.result c.loop-value-test.true c.value-item.is,
+      c.in_ok-add_output.ensures held.0 held.2,
+    )
 
 pub returns : goal.returns
 returns c = λ before are.

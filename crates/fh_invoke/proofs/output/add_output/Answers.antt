@@ -1,4 +1,4 @@
-use Rattle.std.proofs.Common.{◌≡◌, arith, rules}
+use Rattle.std.proofs.Common.{arith}
 use Rattle.fh_invoke.specs.Outputs.{most}
 use Rattle.fh_invoke.proofs.Sending.{one_more, no_more}
 use Rattle.fh_invoke.proofs.output.add_output.Goals as goal

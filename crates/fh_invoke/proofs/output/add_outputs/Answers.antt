@@ -1,4 +1,4 @@
-use Rattle.std.proofs.Common.{◌≡◌, ◌∙◌, Ok, ap, sym}
+use Rattle.std.proofs.Common.{◌∙◌, Ok, ap, sym}
 use Rattle.fh_invoke.proofs.Sending.{nothing_more, these_more}
 use Rattle.fh_invoke.proofs.output.add_outputs.Goals as goal
 

@@ -1,4 +1,4 @@
-use Rattle.std.proofs.Common.{◌≡◌, ap, ◌∙◌}
+use Rattle.std.proofs.Common.{ap, ◌∙◌}
 use Rattle.serde_json.specs.Written.{has_float, compact_text}
 use Rattle.fh_invoke.proofs.NoFloats.{request_has_none}
 use Rattle.fh_invoke.proofs.request.text_about.Goals as goal

@@ -1,4 +1,4 @@
-use Rattle.std.proofs.Common.{◌≡◌, refl}
+use Rattle.std.proofs.Common.{refl}
 use Rattle.fh_invoke.proofs.subject.queue_subject.Goals as goal
 
 pub returns-in_ok-decimal_text-in-Message : goal.returns-in_ok-decimal_text-in-Message
