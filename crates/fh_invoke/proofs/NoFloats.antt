@@ -14,7 +14,8 @@ use Rattle.fh_invoke.specs.Requests.{with_names, request_about}
 
 put_at : (o : Ordering) (k l : List ℕ) (d e : Data) (ms : Members) → has_float d ≡ false
     → has_float e || members_have_float ms ≡ false → members_have_float (put k d ms) ≡ false
-    → members_have_float (match_ordering o (member k d (member l e ms)) (member l d ms) (member l e (put k d ms))) ≡ false
+    → members_have_float (match_ordering o (member k d (member l e ms)) (member l d ms)
+    (member l e (put k d ms))) ≡ false
 put_at Less k l d e ms none old later = rw (none, old) refl
 put_at Equal k l d e ms none old later = rw (none, (or_parts (has_float e) _ old).1) refl
 put_at Greater k l d e ms none old later = rw ((or_parts (has_float e) _ old).0, later) refl

@@ -1,5 +1,6 @@
 -- Outputs that are pushed as long as there is room are the first ones of what is sent.
-use Rattle.std.proofs.Common.{◌≡◌, ◌<◌, ◌≤◌, ◌==◌, ℕ, true, false, zero, suc, Bool, List, [], ◌∷◌, ◌++◌, length, get_or, take, ◌+◌, arith, refl, Ok, sym, ap, ◌∙◌, map, drop}
+use Rattle.std.proofs.Common.{◌≡◌, ◌<◌, ◌≤◌, ◌==◌, ℕ, true, false, zero, suc, Bool, List, [], ◌∷◌, ◌++◌, length, get_or}
+use Rattle.std.proofs.Common.{take, ◌+◌, arith, refl, Ok, sym, ap, ◌∙◌, map, drop}
 use Rattle.std.proofs.lemmas.Bool.{true≢false}
 use Rattle.std.proofs.lemmas.Bool.Decides.{nat_tests}
 use Rattle.std.proofs.lemmas.List.{append_assoc, append-nil, drop_more}
@@ -43,7 +44,8 @@ pub sent_next : (sent : List Sent) (binding : OutBinding) (place : List ℕ) (va
     → sent ++ sent_to binding place (map view (drop i values))
     ≡ (sent ++ sent_to binding place (view value ∷ [])) ++ sent_to binding place (map view (drop (i + 1) values))
 sent_next sent binding place values i value within is =
-    ap (λ (left : List Value). sent ++ sent_to binding place (map view left)) (drop_more values i value within ∙ ap (λ (v : Value). v ∷ drop (i + 1) values) (sym is))
+    ap (λ (left : List Value). sent ++ sent_to binding place (map view left))
+    (drop_more values i value within ∙ ap (λ (v : Value). v ∷ drop (i + 1) values) (sym is))
     ∙ sym (append_assoc sent (sent_to binding place (view value ∷ [])) _)
 
 -- a binding without a value sends nothing

@@ -1,5 +1,6 @@
 -- The outputs that a reply gives: values at their places in the order of the bindings, and then their texts.
-use Rattle.std.specs.Prelude.{◌≡◌, ◌≢◌, ⊤, ℕ, ◌++◌, List, [], ◌∷◌, map, take, codes, Bool, Option, Some, None, unwrap_or, Result, Ok, Err, if◌then◌else◌}
+use Rattle.std.specs.Prelude.{◌≡◌, ◌≢◌, ⊤, ℕ, ◌++◌, List, [], ◌∷◌, map, take, codes, Bool, Option, Some, None}
+use Rattle.std.specs.Prelude.{unwrap_or, Result, Ok, Err, if◌then◌else◌}
 use Rattle.std.specs.Str.{bytes_eq}
 use Rattle.serde_json.specs.Data.{Data, null, boolean, number, string, array, object}
 use Rattle.serde_json.specs.Find.{get_member}
@@ -103,7 +104,8 @@ abbrev pub IsOutputAt : Bool → OutBinding → List ℕ → Data → Output →
 IsOutputAt base64 (Queue _ _) place value (output.Queue queue text) = IsQueueOutput base64 place value queue text
 IsOutputAt base64 (Queue _ _) place value (output.Blob container blob text) = ⊥
 IsOutputAt base64 (Blob _ _) place value (output.Queue queue text) = ⊥
-IsOutputAt base64 (Blob _ _) place value (output.Blob container blob text) = IsBlobOutput place value container blob text
+IsOutputAt base64 (Blob _ _) place value (output.Blob container blob text) =
+    IsBlobOutput place value container blob text
 
 -- the output is what is sent: of the binding's kind, at its place, with the value printed
 abbrev pub IsOutputOf : Bool → Sent → Output → Type 0

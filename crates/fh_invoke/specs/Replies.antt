@@ -1,7 +1,9 @@
 -- What a worker's reply says: its outputs, its log lines and its return value, or why it says nothing.
-use Rattle.std.specs.Prelude.{◌≡◌, ◌≢◌, ℕ, List, [], ◌∷◌, ◌&&◌, nat_le, codes, Option, Some, None, unwrap_or, Result, Ok, Err, if◌then◌else◌}
+use Rattle.std.specs.Prelude.{◌≡◌, ◌≢◌, ℕ, List, [], ◌∷◌, ◌&&◌, nat_le, codes, Option, Some, None, unwrap_or, Result}
+use Rattle.std.specs.Prelude.{Ok, Err, if◌then◌else◌}
 use Rattle.std.specs.Str.{is_utf8}
-use Rattle.serde_json.specs.Data.{Data, null, boolean, number, string, array, object, Items, no_items, item, Members, no_members}
+use Rattle.serde_json.specs.Data.{Data, null, boolean, number, string, array, object, Items, no_items, item, Members}
+use Rattle.serde_json.specs.Data.{no_members}
 use Rattle.serde_json.specs.Find.{get_member}
 use Rattle.serde_json.specs.Read.{read}
 use Rattle.serde_json.specs.View.{view, members_view}
@@ -17,7 +19,11 @@ pub record Parts : Type 0 where
 
 -- the parts that an answer holds
 abbrev pub parts_in : Answer → Parts
-parts_in answer = record { outputs = members_view answer.outputs.entries; logs = answer.logs; value = view answer.value }
+parts_in answer = record {
+  outputs = members_view answer.outputs.entries;
+  logs = answer.logs;
+  value = view answer.value;
+}
 
 -- the JSON value of a body, of which an empty one is {}
 abbrev pub body_value : List ℕ → Option Data

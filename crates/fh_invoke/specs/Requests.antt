@@ -1,6 +1,7 @@
 -- The JSON value that is posted for an invocation: members in order of their bytes.
 use Rattle.std.specs.Prelude.{ℕ, Bool, true, List, [], ◌∷◌, codes, Option, Some, None}
-use Rattle.serde_json.specs.Data.{Data, null, boolean, number, string, object, Members, no_members, member, unsigned, put}
+use Rattle.serde_json.specs.Data.{Data, null, boolean, number, string, object, Members, no_members, member, unsigned}
+use Rattle.serde_json.specs.Data.{put}
 use Rattle.serde_json.specs.Written.{compact_text}
 use Rattle.fh_base.specs.Times.{time_text}
 use Rattle.fh_base.specs.declared.times.TimeForm.TheVariants.{Millis}

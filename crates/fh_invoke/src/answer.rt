@@ -5,7 +5,8 @@ ghost use Rattle.serde_json.specs.Data.{null};
 ghost use Rattle.serde_json.specs.Find.{as_object};
 ghost use Rattle.serde_json.specs.View.{view, items_view, members_view};
 ghost use Rattle.fh_invoke.specs.declared.fault.AnswerFault.TheVariants.{NotJson, NotObject};
-ghost use Rattle.fh_invoke.specs.Replies.{Answers, parts_in, answer_of, body_value, parts_of as parts_of_lem, output_members, log_lines as log_lines_lem, texts_among as texts_among_lem};
+ghost use Rattle.fh_invoke.specs.Replies.{Answers, parts_in, answer_of, body_value, parts_of as parts_of_lem};
+ghost use Rattle.fh_invoke.specs.Replies.{output_members, log_lines as log_lines_lem, texts_among as texts_among_lem};
 
 use crate::fault::AnswerFault;
 use fh_base::{NoMemory, Text, Texts, utf8_text};

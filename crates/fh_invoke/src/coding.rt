@@ -2,7 +2,9 @@
 ghost use Rattle.std.specs.Prelude.{◌≡◌, IfOk, if◌then◌else◌};
 ghost use Rattle.std.specs.Str.{is_utf8};
 ghost use Rattle.base64.specs.GeneralPurpose.{encode_of};
-ghost use Rattle.fh_invoke.specs.Texts.{decoded as decoded_lem, decoded_by as decoded_by_lem, plain_text as plain_text_lem, coded as coded_lem, standard_text as standard_text_lem};
+ghost use Rattle.fh_invoke.specs.Texts.{decoded as decoded_lem, decoded_by as decoded_by_lem};
+ghost use Rattle.fh_invoke.specs.Texts.{plain_text as plain_text_lem, coded as coded_lem};
+ghost use Rattle.fh_invoke.specs.Texts.{standard_text as standard_text_lem};
 
 use base64::DecodeAllocError;
 use base64::engine::general_purpose::{GeneralPurpose, STANDARD};

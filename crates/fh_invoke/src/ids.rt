@@ -1,7 +1,8 @@
 // Ids as texts.
 ghost use Rattle.std.specs.Prelude.{◌≡◌, IfOk};
 ghost use Rattle.uuid.specs.Text.{hyphenated_text, lower};
-ghost use Rattle.fh_invoke.specs.Texts.{message_id as message_id_lem, rand_guid as rand_guid_lem, random_id as random_id_lem};
+ghost use Rattle.fh_invoke.specs.Texts.{message_id as message_id_lem, rand_guid as rand_guid_lem};
+ghost use Rattle.fh_invoke.specs.Texts.{random_id as random_id_lem};
 
 use fh_base::{NoMemory, Text};
 use std::alloc::Global;

@@ -2,7 +2,11 @@
 ghost use Rattle.std.specs.Prelude.{◌≡◌, ◌++◌, [], ◌∷◌, IfOk, OnOk, option_map, option_and_then};
 ghost use Rattle.serde_json.specs.Read.{read};
 ghost use Rattle.serde_json.specs.View.{view};
-ghost use Rattle.fh_invoke.specs.Knowing.{Knows, names_of_all as names_of_all_lem, names_of_message as names_of_message_lem, names_of_place as names_of_place_lem, names_about as names_about_lem, names_known as names_known_lem, only_object as only_object_lem, object_about as object_about_lem};
+ghost use Rattle.fh_invoke.specs.Knowing.{Knows, names_of_all as names_of_all_lem};
+ghost use Rattle.fh_invoke.specs.Knowing.{names_of_message as names_of_message_lem};
+ghost use Rattle.fh_invoke.specs.Knowing.{names_of_place as names_of_place_lem, names_about as names_about_lem};
+ghost use Rattle.fh_invoke.specs.Knowing.{names_known as names_known_lem, only_object as only_object_lem};
+ghost use Rattle.fh_invoke.specs.Knowing.{object_about as object_about_lem};
 
 use crate::ids::rand_guid;
 use crate::subject::{BlobPlace, QueueMessage, Subject, decimal_text};

@@ -6,7 +6,10 @@ ghost use Rattle.fh_event.specs.Entries.{entry};
 ghost use Rattle.fh_event.specs.declared.command.Command.TheVariants.{Finish};
 ghost use Rattle.fh_event.specs.declared.outcome.Outcome.{Outcome as OutcomeIs};
 ghost use Rattle.fh_event.specs.declared.outcome.Outcome.TheVariants.{Failed as FailedIs};
-ghost use Rattle.fh_invoke.specs.Outcomes.{IsOutcome, IsFullOutcome, IsOutcomeOfBytes, IsOutcomeOfResponse, IsOutcomeOfAnswer, IsAnswered, IsAnswerOutcome, IsFailure, measured as measured_lem, wire_cause as wire_cause_lem, answer_cause as answer_cause_lem};
+ghost use Rattle.fh_invoke.specs.Outcomes.{IsOutcome, IsFullOutcome, IsOutcomeOfBytes, IsOutcomeOfResponse};
+ghost use Rattle.fh_invoke.specs.Outcomes.{IsOutcomeOfAnswer, IsAnswered, IsAnswerOutcome, IsFailure};
+ghost use Rattle.fh_invoke.specs.Outcomes.{measured as measured_lem, wire_cause as wire_cause_lem};
+ghost use Rattle.fh_invoke.specs.Outcomes.{answer_cause as answer_cause_lem};
 ghost use Rattle.fh_invoke.specs.Replies.{parts_in, answer_of};
 
 use crate::answer::{Answer, read_answer};
@@ -29,7 +32,8 @@ pub fn outcome_of(
     function: &Function,
     app: &App,
 ) -> Result<(Outcome, Texts), NoMemory>
-    ensures { IfOk result (IsOutcome (result_map_both (λ b. b.now) (λ e. e) reply.entry) begun.now function.now app.now) }
+    ensures { IfOk result (IsOutcome (result_map_both (λ b. b.now) (λ e. e) reply.entry)
+        begun.now function.now app.now) }
 {
     let (full, logs) = full_outcome(alloc, reply, begun, function, app)?;
     let outcome = measured(alloc, begun.invocation, full)?;
@@ -43,7 +47,8 @@ fn full_outcome(
     function: &Function,
     app: &App,
 ) -> Result<(Outcome, Texts), NoMemory>
-    ensures { IfOk result (IsFullOutcome (result_map_both (λ b. b.now) (λ e. e) reply.entry) begun.now function.now app.now) }
+    ensures { IfOk result (IsFullOutcome (result_map_both (λ b. b.now) (λ e. e) reply.entry)
+        begun.now function.now app.now) }
 {
     match reply {
         Ok(bytes) => outcome_of_bytes(alloc, bytes, begun, function, app),

@@ -1,11 +1,15 @@
 // The outputs that a reply gives.
-ghost use Rattle.std.specs.Prelude.{◌≡◌, ◌≢◌, ◌++◌, [], ◌∷◌, List, map, option_map, IfOk, OnOk, MatchResult, MatchOption, Option, Ok, Err};
+ghost use Rattle.std.specs.Prelude.{◌≡◌, ◌≢◌, ◌++◌, [], ◌∷◌, List, map, option_map, IfOk, OnOk, MatchResult};
+ghost use Rattle.std.specs.Prelude.{MatchOption, Option, Ok, Err};
 ghost use Rattle.serde_json.specs.Find.{get_member};
 ghost use Rattle.serde_json.specs.View.{view, members_view};
 ghost use Rattle.fh_app.specs.Bindings.{cut_at};
 ghost use Rattle.fh_invoke.specs.declared.fault.OutputFault.TheVariants.{NoMemory as WantOfMemory};
 ghost use Rattle.fh_invoke.specs.Replies.{parts_in};
-ghost use Rattle.fh_invoke.specs.Outputs.{Gives, UnlessMemory, Sends, SendsMore, Sent, sent_by, sent_to, sent_behind, given as given_lem, value_named as value_named_lem, name_of as name_of_lem, template_of as template_of_lem, place_of as place_of_lem, blob_at as blob_at_lem, IsOutputAt, AreFirstOf};
+ghost use Rattle.fh_invoke.specs.Outputs.{Gives, UnlessMemory, Sends, SendsMore, Sent, sent_by, sent_to, sent_behind};
+ghost use Rattle.fh_invoke.specs.Outputs.{given as given_lem, value_named as value_named_lem, name_of as name_of_lem};
+ghost use Rattle.fh_invoke.specs.Outputs.{template_of as template_of_lem, place_of as place_of_lem};
+ghost use Rattle.fh_invoke.specs.Outputs.{blob_at as blob_at_lem, IsOutputAt, AreFirstOf};
 
 use crate::answer::Answer;
 use crate::coding::coded;

@@ -3,7 +3,13 @@ ghost use Rattle.std.specs.Prelude.{◌≡◌, IfOk, OnOk, string_bytes};
 ghost use Rattle.serde_json.specs.Data.{string, put as put_lem};
 ghost use Rattle.serde_json.specs.View.{view, members_view};
 ghost use Rattle.serde_json.specs.Written.{compact_text};
-ghost use Rattle.fh_invoke.specs.Requests.{sys_of, bare_members as bare_members_lem, queue_members as queue_members_lem, with_names, with_place, blob_members as blob_members_lem, metadata_of as metadata_of_lem, schedule as schedule_lem, schedule_status as schedule_status_lem, run_value as run_value_lem, content_value as content_value_lem, value_of as value_of_lem, name_of as name_of_lem, posted as posted_lem, request_about as request_about_lem, request_text as request_text_lem};
+ghost use Rattle.fh_invoke.specs.Requests.{sys_of, bare_members as bare_members_lem};
+ghost use Rattle.fh_invoke.specs.Requests.{queue_members as queue_members_lem, with_names, with_place};
+ghost use Rattle.fh_invoke.specs.Requests.{blob_members as blob_members_lem, metadata_of as metadata_of_lem};
+ghost use Rattle.fh_invoke.specs.Requests.{schedule as schedule_lem, schedule_status as schedule_status_lem};
+ghost use Rattle.fh_invoke.specs.Requests.{run_value as run_value_lem, content_value as content_value_lem};
+ghost use Rattle.fh_invoke.specs.Requests.{value_of as value_of_lem, name_of as name_of_lem, posted as posted_lem};
+ghost use Rattle.fh_invoke.specs.Requests.{request_about as request_about_lem, request_text as request_text_lem};
 
 use crate::ids::rand_guid;
 use crate::subject::{BlobPlace, QueueMessage, Subject, subject_of};

@@ -3,7 +3,10 @@ ghost use Rattle.std.specs.Prelude.{◌≡◌, IfOk, option_and_then};
 ghost use Rattle.std.specs.Fmt.{decimal};
 ghost use Rattle.fh_base.specs.Times.{time_text as time_text_lem};
 ghost use Rattle.fh_base.specs.declared.times.TimeForm.TheVariants.{Offset};
-ghost use Rattle.fh_invoke.specs.Subjects.{expiry_text as expiry_text_lem, run_text as run_text_lem, queue_subject as queue_subject_lem, blob_path as blob_path_lem, blob_place as blob_place_lem, blob_subject as blob_subject_lem, timer_subject as timer_subject_lem, subject_of as subject_of_lem};
+ghost use Rattle.fh_invoke.specs.Subjects.{expiry_text as expiry_text_lem, run_text as run_text_lem};
+ghost use Rattle.fh_invoke.specs.Subjects.{queue_subject as queue_subject_lem, blob_path as blob_path_lem};
+ghost use Rattle.fh_invoke.specs.Subjects.{blob_place as blob_place_lem, blob_subject as blob_subject_lem};
+ghost use Rattle.fh_invoke.specs.Subjects.{timer_subject as timer_subject_lem, subject_of as subject_of_lem};
 
 use crate::coding::decoded;
 use crate::ids::message_id;

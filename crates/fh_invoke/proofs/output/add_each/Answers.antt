@@ -15,7 +15,8 @@ loop-value-preserved c = λ before are.
     let binding = c.args.binding.now in
     let place = c.args.place.now in (
       held.0 ++ sent_to binding place (view c.value-item.result ∷ []),
-      held.1 ∙ sent_next held.0 binding place c.args.given.now c.loop-value.value-index c.value-item.result c.loop-value-test.true c.value-item.is,
+      held.1 ∙ sent_next held.0 binding place c.args.given.now c.loop-value.value-index c.value-item.result
+          c.loop-value-test.true c.value-item.is,
       c.in_ok-add_output.ensures held.0 held.2,
     )
 
@@ -23,4 +24,6 @@ pub returns : goal.returns
 returns c = λ before are.
     let held = c.loop-value.invariant before are in
     let all : drop c.loop-value.value-index c.args.given.now ≡ [] = drop_all _ c.args.given.now (omega arith) in
-    rw (held.1 ∙ ap (λ (left : List Value). held.0 ++ sent_to c.args.binding.now c.args.place.now (map view left)) all ∙ append-nil held.0) held.2
+    rw (held.1
+    ∙ ap (λ (left : List Value). held.0 ++ sent_to c.args.binding.now c.args.place.now (map view left)) all
+    ∙ append-nil held.0) held.2

@@ -7,5 +7,6 @@ use Rattle.fh_invoke.proofs.output.add_each.Given as goal
 abbrev pub invariant-loop-value : goal.invariant-loop-value
 invariant-loop-value l = (before : List Sent) → AreFirstOf l.base64 before l.fn.outputs.items
     → (sent : List Sent)
-    × (before ++ sent_to l.binding l.place (map view l.given) ≡ sent ++ sent_to l.binding l.place (map view (drop l.value-index l.given)))
+    × (before ++ sent_to l.binding l.place (map view l.given)
+    ≡ sent ++ sent_to l.binding l.place (map view (drop l.value-index l.given)))
     × AreFirstOf l.base64 sent l.outputs.items

@@ -15,7 +15,8 @@ returns-in-Queue-Array c =
     let queue : OutBinding = Queue c.in-Queue-Array.name-0 c.in-Queue-Array.queue-0 in
     ap (map view) c.as_slice.ensures.value
     ∙ sym (list_of_items (map view c.in-Queue-Array.values.items))
-    ∙ sym (ap (λ (b : OutBinding). given b (option_map (λ (v : Bor Value). view v.now) c.args.value)) c.in-Queue-Array.is-0
+    ∙ sym (ap (λ (b : OutBinding). given b (option_map (λ (v : Bor Value). view v.now) c.args.value))
+    c.in-Queue-Array.is-0
     ∙ ap (λ (o : Option (Bor Value)). given queue (option_map (λ (v : Bor Value). view v.now) o)) c.in-Some.is
     ∙ ap (λ (v : Value). given queue (Some (view v))) c.in-Queue-Array.is-1
     ∙ ap (λ (d : Data). given queue (Some d)) (view-Array c.in-Queue-Array.values))
