@@ -30,3 +30,6 @@ pub use fault::{AnswerFault, OutputFault};
 pub use outcome::outcome_of;
 pub use output::outputs_of;
 pub use request::request_text;
+
+#[cfg(test)]
+mod tests;
