@@ -90,7 +90,7 @@ abbrev pub IsFullOutcome : Result (List ℕ) LinkFailed → Begun → Function �
 IsFullOutcome (Err _) begun function app told = IsFailure (codes "link") told
 IsFullOutcome (Ok bytes) begun function app told = IsOutcomeOfBytes bytes begun function app told
 
--- an outcome whose entry would be too long is a failure
+-- an outcome whose entry would be too long is a failure; the moment has eight bytes in each
 abbrev pub measured : ℕ → Outcome → Outcome
 measured invocation outcome =
     if nat_le (length (entry 0 (Finish invocation outcome))) longest_payload then outcome

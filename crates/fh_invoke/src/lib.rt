@@ -6,7 +6,7 @@
 //! - `read_answer` gives exactly the outputs, log lines and return value of a reply, or its first fault.
 //! - `outputs_of` gives the first 1,001 outputs in the order of the bindings, or the first binding that has
 //!   an output and whose template doesn't resolve. Of an output only the digits of a number with a fraction
-//!   or an exponent are left open.
+//!   or an exponent are left open, and they read back as that number.
 //! - `outcome_of` gives the outcome that is recorded and the log lines: the first cause of failure, or
 //!   success; an outcome whose entry would be too long is the failure `too long`.
 //!
