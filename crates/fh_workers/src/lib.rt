@@ -31,3 +31,6 @@ pub use memory_link::MemoryLink;
 pub use memory_spawner::MemorySpawner;
 pub use process_spawner::ProcessSpawner;
 pub use spawner::{SpawnFault, Spawner, Start};
+
+#[cfg(test)]
+mod tests;
