@@ -29,9 +29,15 @@ fn words(alloc: Global, line: &str) -> Result<Vec<String>, Fail> {
     Ok(words)
 }
 
-fn door(alloc: Global, coming: &[&str]) -> Result<MemoryDoor, Fail> {
+// A door with a connection for each letter: a request for an `r`, and what is none for any other.
+fn door(alloc: Global, coming: &str) -> Result<MemoryDoor, Fail> {
     let mut queue = VecDeque::new(alloc);
-    for text in coming {
+    for kind in coming.chars() {
+        let text = if kind == 'r' {
+            REQUEST
+        } else {
+            "no head\r\n\r\n"
+        };
         queue.push_back(Bytes::from_slice(alloc, text.as_bytes())?)?;
     }
     Ok(MemoryDoor::new(alloc, queue, no_faults(alloc)))
@@ -52,26 +58,21 @@ fn a_request_is_answered_without_outputs(rt: HostRuntime) -> Result<(), Fail> {
 #[test]
 fn a_worker_ends_by_its_words_and_its_door(rt: HostRuntime) -> Result<(), Fail> {
     let alloc = rt.alloc();
-    let cases: [(&str, &[&str], u8, &str); 14] = [
-        ("sample-worker 7072 1", &[REQUEST], 0, ""),
-        (
-            "sample-worker 7072 2",
-            &["no head\r\n\r\n", REQUEST, REQUEST],
-            0,
-            "",
-        ),
-        ("sample-worker 7072 2", &[REQUEST], 11, "door fault\n"),
-        ("sample-worker 1024 0", &[REQUEST], 0, ""),
-        ("sample-worker 065519 000000000000000", &[], 0, ""),
-        ("sample-worker 1023 0", &[], 2, "usage\n"),
-        ("sample-worker 65520 0", &[], 2, "usage\n"),
-        ("sample-worker 7072 0000000000000000", &[], 2, "usage\n"),
-        ("sample-worker 7072 x", &[], 2, "usage\n"),
-        ("sample-worker 7072 ", &[], 2, "usage\n"),
-        ("sample-worker 7072", &[], 2, "usage\n"),
-        ("sample-worker 7072 1 1", &[REQUEST], 2, "usage\n"),
-        ("sample 7072 1", &[REQUEST], 2, "usage\n"),
-        ("", &[], 2, "usage\n"),
+    let cases = [
+        ("sample-worker 7072 1", "r", 0, ""),
+        ("sample-worker 7072 2", "nrr", 0, ""),
+        ("sample-worker 7072 2", "r", 11, "door fault\n"),
+        ("sample-worker 1024 0", "r", 0, ""),
+        ("sample-worker 065519 000000000000000", "", 0, ""),
+        ("sample-worker 1023 0", "", 2, "usage\n"),
+        ("sample-worker 65520 0", "", 2, "usage\n"),
+        ("sample-worker 7072 0000000000000000", "", 2, "usage\n"),
+        ("sample-worker 7072 x", "", 2, "usage\n"),
+        ("sample-worker 7072 ", "", 2, "usage\n"),
+        ("sample-worker 7072", "", 2, "usage\n"),
+        ("sample-worker 7072 1 1", "r", 2, "usage\n"),
+        ("sample 7072 1", "r", 2, "usage\n"),
+        ("", "", 2, "usage\n"),
     ];
     for (line, coming, code, last) in cases {
         let words = words(alloc, line)?;
