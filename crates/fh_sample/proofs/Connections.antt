@@ -1,19 +1,11 @@
 -- Connections that were accepted one behind the other.
 use Rattle.std.proofs.Common.{◌≡◌, ◌+◌, ◌<◌, ℕ, List, [], ◌∷◌, ◌++◌, length, map, Option, Some, None, Result, Ok, Err, refl, sym, ◌∙◌, ap, subst, arith}
 use Rattle.std.specs.Result.{IsErrAnd}
-use Rattle.std.proofs.lemmas.List.{append-nil, append_assoc, length-append, map-append}
+use Rattle.std.proofs.lemmas.List.{append_assoc, length-append, map-append}
 use Rattle.fh_workers.specs.Doors.{AddsConnection}
 use Rattle.fh_sample.specs.declared.worker.RoundFault.{RoundFault}
 use Rattle.fh_sample.specs.declared.worker.RoundFault.TheVariants.{DoorFault, NoMemory}
 use Rattle.fh_sample.specs.Rounds.{Accepts, AcceptsUpTo, Connections, Makes, with_connections}
-
--- none yet
-nothing_more : (port : ℕ) (was : Connections) → was ≡ with_connections port [] was
-nothing_more port None = refl
-nothing_more port (Some earlier) = ap (λ all. Some all) (sym (append-nil earlier))
-
-pub accepts_none : (port : ℕ) (was : Connections) → Accepts port 0 was was
-accepts_none port was = record { given = []; many = refl; are = nothing_more port was }
 
 -- what an accept adds
 pub accepts_one : (port : ℕ) (left : Option (List ℕ)) (was now : Connections) → AddsConnection port left was now
