@@ -15,10 +15,11 @@ Records request was now (Ok reply) = now ≡ with_request request was
 Records request was now (Err Failed) = now ≡ with_request request was
 Records request was now (Err NoMemory) = (now ≡ was) ⊎ (now ≡ with_request request was)
 
--- a count never falls; an ask fails only where it rose
-pub record AskHasCause {T : Type 0} (before now : ℕ) (result : Result T LinkFault) : Type 0 where
-  pub later : before ≤ now
-  pub failed : result ≡ Err Failed → Rose before now
+-- a count never falls; an ask fails only where it rose, and ends otherwise only where it didn't
+abbrev pub AskHasCause : {T : Type 0} → ℕ → ℕ → Result T LinkFault → Type 0
+AskHasCause before now (Ok reply) = now ≡ before
+AskHasCause before now (Err Failed) = (before ≤ now) × Rose before now
+AskHasCause before now (Err NoMemory) = now ≡ before
 
 -- the replies to come once an ask failed: it takes the failure where one was to come, and no reply
 abbrev pub after_failure : List (Option (List ℕ)) → List (Option (List ℕ))

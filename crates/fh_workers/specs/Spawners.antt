@@ -1,5 +1,5 @@
 -- What a spawner's starts leave of its list and of its running workers.
-use Rattle.std.specs.Prelude.{◌≡◌, ℕ, ◌+◌, ◌≤◌, List, [], ◌∷◌, ◌++◌, Option, Result, Ok, Err, IsOk}
+use Rattle.std.specs.Prelude.{◌≡◌, ℕ, ◌+◌, ◌≤◌, List, [], ◌∷◌, ◌++◌, Option, Result, Ok, Err}
 use Rattle.std.specs.Option.{option_map}
 use Rattle.fh_base.specs.Faults.{Rose}
 use Rattle.fh_workers.specs.declared.spawner.Start.{Start}

@@ -1,7 +1,7 @@
 // A door in memory, which has its connections from the start.
 ghost use Rattle.std.specs.Prelude.{◌≡◌, ◌∷◌, ◌++◌, [], Some, true, false, IfOk, OnOk, OnErr, is_err};
 ghost use Rattle.fh_base.specs.Faults.{HasCause};
-ghost use Rattle.fh_base.specs.FaultPlan.{raised};
+ghost use Rattle.fh_base.specs.FaultPlan.{called, never_fails};
 ghost use Rattle.fh_workers.specs.MemoryDoors.{left_of, written_of};
 
 use crate::{Door, MemoryConn};
@@ -10,7 +10,7 @@ use std::alloc::Global;
 use std::collections::VecDeque;
 
 /// A door in memory. Its connections come in order. It fails at the accepts of its plan, after the last
-/// connection, and where memory is refused.
+/// connection, and where memory is refused. An accept that fails takes no connection.
 #[derive(Drop)]
 pub struct MemoryDoor {
     alloc: Global,
@@ -62,9 +62,12 @@ impl Door for MemoryDoor {
         ensures accepted { IfOk result (λ conn. self.new.accepted.items ≡ self.old.accepted.items ++ (self.old.port, left_of conn) ∷ []) }
         ensures kept { OnErr result (self.new.accepted.items ≡ self.old.accepted.items) }
         ensures next { IfOk result (λ conn. self.old.coming.items ≡ left_of conn ∷ self.new.coming.items) }
+        ensures waits { OnErr result (self.new.coming.items ≡ self.old.coming.items) }
         ensures unwritten { IfOk result (λ conn. written_of conn ≡ []) }
+        ensures reads { IfOk result (λ conn. never_fails conn.source.plan ≡ true) }
+        ensures writes { IfOk result (λ conn. never_fails conn.sink.plan ≡ true) }
         ensures fails { fails_to_accept self.old ≡ true → is_err result ≡ true }
-        ensures calls { self.new.plan.calls ≡ raised self.old.plan.calls }
+        ensures plan { self.new.plan ≡ called (is_err result) self.old.plan }
         ensures port { self.new.port ≡ self.old.port }
         ensures cause { HasCause self.old.plan.faults self.new.plan.faults result }
     {
@@ -91,21 +94,24 @@ fn take(
     ensures accepted { IfOk result (λ bytes. accepted.new.items ≡ accepted.old.items ++ (port, bytes) ∷ []) }
     ensures kept { OnErr result (accepted.new.items ≡ accepted.old.items) }
     ensures next { IfOk result (λ bytes. coming.old.items ≡ bytes ∷ coming.new.items) }
+    ensures waits { OnErr result (coming.new.items ≡ coming.old.items) }
 {
-    let Some(bytes) = coming.pop_front() else {
+    let Some(next) = coming.front() else {
         return Err(NoMemory);
     };
-    let own = Bytes::from_slice(alloc, bytes.as_slice())?;
-    match accepted.push((port, own)) {
-        Ok(()) => Ok(bytes),
-        Err(_) => Err(NoMemory),
-    }
+    let noted = Bytes::from_slice(alloc, next.as_slice())?;
+    let Ok(()) = accepted.push((port, noted)) else {
+        return Err(NoMemory);
+    };
+    coming.pop_front().ok_or(NoMemory)
 }
 
-// A connection that gives these bytes, and on which no read fails.
+// A connection that gives these bytes, and on which no call fails by plan.
 fn conn_of(alloc: Global, bytes: Bytes) -> MemoryConn
     ensures left { left_of result ≡ bytes }
     ensures written { written_of result ≡ [] }
+    ensures reads { never_fails result.source.plan ≡ true }
+    ensures writes { never_fails result.sink.plan ≡ true }
 {
     MemoryConn {
         source: MemorySource::new(bytes.into_vec(), no_faults(alloc)),
@@ -113,7 +119,9 @@ fn conn_of(alloc: Global, bytes: Bytes) -> MemoryConn
     }
 }
 
-fn no_faults(alloc: Global) -> FaultPlan {
+fn no_faults(alloc: Global) -> FaultPlan
+    ensures { never_fails result ≡ true }
+{
     FaultPlan::new(Failing::Listed {
         calls: Vec::new(alloc),
     })

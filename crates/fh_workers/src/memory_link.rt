@@ -1,6 +1,5 @@
 // A link in memory, which has its replies from the start.
 ghost use Rattle.std.specs.Prelude.{◌≡◌, [], ◌∷◌, ◌++◌, Some, Err, true, false, take, ◌≤◌, length, IfOk, OnOk, OnErr};
-ghost use Rattle.fh_base.specs.FaultPlan.{raised};
 ghost use Rattle.fh_workers.specs.Links.{Records, TakesReply, AskHasCause};
 
 use crate::{Link, LinkFault};
@@ -41,7 +40,7 @@ impl MemoryLink {
 }
 
 impl Link for MemoryLink {
-    ghost use Rattle.fh_workers.specs.MemoryLinks.{to_come_of, fails_to_ask};
+    ghost use Rattle.fh_workers.specs.MemoryLinks.{asked_once, fails_to_ask, to_come_of};
 
     ghost aimed = { λ l. l.port };
 
@@ -67,11 +66,13 @@ impl Link for MemoryLink {
         ensures cause { AskHasCause self.old.plan.faults self.new.plan.faults result }
         ensures passes { IfOk result (λ reply. fails_to_ask self.old ≡ false) }
         ensures fails { result ≡ Err LinkFault.Failed → fails_to_ask self.old ≡ true }
-        ensures calls { self.new.plan.calls ≡ raised self.old.plan.calls }
+        ensures plan { self.new.plan ≡ asked_once result self.old.plan }
     {
-        let fails = self.plan.fails_now();
-        add_request(&mut self.asked, self.alloc, request)?;
-        if fails {
+        if let Err(refused) = add_request(&mut self.asked, self.alloc, request) {
+            self.plan.calls = self.plan.calls.saturating_add(1);
+            return Err(refused);
+        }
+        if self.plan.fails_now() {
             return Err(LinkFault::Failed);
         }
         match self.replies.pop_front() {

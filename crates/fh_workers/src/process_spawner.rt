@@ -10,7 +10,7 @@ use std::rt::Stderr;
 
 /// Starts a worker as a process of the host, with its port in `FUNCTIONS_CUSTOMHANDLER_PORT`. What the
 /// worker writes goes to standard error. It tells nothing of the starts, and counts each error of the host.
-#[derive(Drop)]
+/// Where it goes out of scope it stops all workers, so that none outlives it.
 pub struct ProcessSpawner<P: Processes> {
     runtime: P,
     alloc: Global,
@@ -64,6 +64,19 @@ impl<P: Processes> Spawner for ProcessSpawner<P> {
 
     fn stop_all(&mut self) {
         end_all(&mut self.workers);
+    }
+}
+
+impl<P: Processes + Drop> Drop for ProcessSpawner<P> {
+    fn drop(mut self) {
+        end_all(&mut self.workers);
+        let ProcessSpawner {
+            runtime: _,
+            alloc: _,
+            output: _,
+            workers: _,
+            faults: _,
+        } = self;
     }
 }
 

@@ -1,12 +1,12 @@
 //! `fnhost`: makes the real objects, and hands the words of the command line to the top call of its command.
 //!
 //! Promised: the words are the arguments behind the program's name, and choose the command before any file is
-//! named. Those of a script name the journal's file and the checkpoint's, that of a check the app's folder.
-//! Words that are no command end with status 2. The exit status is the top call's, unless
-//! something is missing before it: 9 where memory is refused, 6 where the null device can't be opened. What
-//! a command does is the contract of `fh_script::script` or `fh_app::check`, over objects that tell nothing.
-//! No file is opened before the descriptors of the three standard streams are taken, so none can stand for a
-//! stream that was closed.
+//! named. Those of a script name the journal's file and the checkpoint's, that of a check the app's folder,
+//! those of a sample worker its port. Words that are no command end with status 2. The exit status is the
+//! top call's, unless something is missing before it: 9 where memory is refused, 6 where the null device
+//! can't be opened. What a command does is the contract of `fh_script::script`, `fh_app::check` or
+//! `fh_sample::sample_worker`, over objects that tell nothing. No file is opened before the descriptors of
+//! the three standard streams are taken, so none can stand for a stream that was closed.
 #![tactic(auto)]
 
 ghost use Rattle.std.specs.Prelude.{◌≡◌, ◌≢◌, ◌==◌, [], not, drop, slice_get, is_some, IfOk, IfErr, OnErr, IsErr, string_bytes};
@@ -15,6 +15,7 @@ ghost use Rattle.fh_base.specs.Ends.{Concludes, plain_line};
 ghost use Rattle.fh_base.specs.declared.ends.PlainEnd.TheVariants.{Usage};
 ghost use Rattle.fh_script.specs.Script.{is_script as is_script_lem};
 ghost use Rattle.fh_app.specs.Check.{is_check as is_check_lem};
+ghost use Rattle.fh_sample.specs.Words.{trial_of};
 ghost use Rattle.fnhost.specs.Words.{command_of, path_of};
 ghost use Rattle.fnhost.specs.Ends.{unready_code};
 
@@ -23,7 +24,9 @@ use fh_base::{
     NoMemory, PlainEnd, Sink, Source, Status, StreamSink, StreamSource, write_last_line,
 };
 use fh_disk::FileDisk;
+use fh_sample::{is_sample_worker, sample_worker};
 use fh_script::{is_script, script};
+use fh_workers::LoopbackDoor;
 use std::alloc::Global;
 use std::fs::File;
 use std::io::ErrorKind;
@@ -42,6 +45,7 @@ enum Unready {
 #[derive(Clone, Copy, Debug, PartialEq, Eq)]
 enum ProgramCommand {
     Check,
+    SampleWorker,
     Script,
 }
 
@@ -141,6 +145,7 @@ fn run(rt: &HostRuntime, alloc: Global, words: &[String]) -> Result<Status, NoMe
 {
     match command_of(words) {
         Some(ProgramCommand::Check) => run_check(rt, alloc, words),
+        Some(ProgramCommand::SampleWorker) => Ok(run_sample_worker(rt, alloc, words)),
         Some(ProgramCommand::Script) => run_script(rt, alloc, words),
         None => Ok(refuse(&mut StreamSink::new(io::writer(rt)))),
     }
@@ -151,6 +156,9 @@ fn command_of(words: &[String]) -> Option<ProgramCommand>
 {
     if is_check(words) {
         return Some(ProgramCommand::Check);
+    }
+    if is_sample_worker(words) {
+        return Some(ProgramCommand::SampleWorker);
     }
     if is_script(words) {
         return Some(ProgramCommand::Script);
@@ -189,6 +197,15 @@ fn list<O: Sink>(
     ensures unasked { result.code ≡ 2 → folder.new ≡ folder.old }
 {
     check(alloc, words, folder, sink)
+}
+
+// Answers what comes to the port that the words name, on the loopback address.
+fn run_sample_worker(rt: &HostRuntime, alloc: Global, words: &[String]) -> Status
+    ensures usage { (result.code == 2) ≡ not (is_some (trial_of words.now)) }
+{
+    let mut sink = StreamSink::new(io::writer(rt));
+    let mut door = LoopbackDoor::new(*rt);
+    sample_worker(alloc, words, &mut door, &mut sink)
 }
 
 fn run_script(rt: &HostRuntime, alloc: Global, words: &[String]) -> Result<Status, NoMemory>
