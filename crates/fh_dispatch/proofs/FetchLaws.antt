@@ -12,9 +12,10 @@ use Rattle.fh_dispatch.specs.declared.done.WorkDone.{WorkDone}
 use Rattle.fh_dispatch.specs.declared.done.WorkDone.TheVariants as done
 use Rattle.fh_dispatch.specs.declared.trigger.Trigger.{Trigger}
 use Rattle.fh_dispatch.specs.Part.{WorkPart, Others}
-use Rattle.fh_dispatch.specs.Ready.{in_work}
+use Rattle.fh_dispatch.specs.InWork.{in_work}
 use Rattle.fh_dispatch.specs.Asks.{Fetch}
-use Rattle.fh_dispatch.specs.Queues.{trigger_of, is_full, batch_of, unless_full, fetching_queue, asks_queues}
+use Rattle.fh_dispatch.specs.Queues.{trigger_of, is_full, batch_of, unless_full, fetching_queue}
+use Rattle.fh_dispatch.specs.Asked.{asks_queues}
 use Rattle.fh_dispatch.specs.Outcome.{fetched_job, fetching_by, busy, fetching, acting, made_by, outcome}
 use Rattle.fh_dispatch.specs.Laws.{IsFetch, FetchesAsTold}
 

@@ -21,7 +21,8 @@ use Rattle.fh_dispatch.specs.declared.done.WorkDone.{WorkDone}
 use Rattle.fh_dispatch.specs.declared.done.WorkDone.TheVariants as done
 use Rattle.fh_dispatch.specs.declared.trigger.Trigger.{Trigger}
 use Rattle.fh_dispatch.specs.Part.{WorkPart, function_of, number_or}
-use Rattle.fh_dispatch.specs.Ready.{jobs_of, in_work, is_busy, is_run, runs_in, with_job, without_jobs_of}
+use Rattle.fh_dispatch.specs.InWork.{in_work, is_busy, runs_in}
+use Rattle.fh_dispatch.specs.Ready.{jobs_of, is_run, with_job, without_jobs_of}
 use Rattle.fh_dispatch.specs.Settings.{has_other_trigger}
 use Rattle.fh_dispatch.specs.Asks.{Ask, Configure, Ready, Session, Fetch, Nothing}
 use Rattle.fh_dispatch.specs.Acts.{acted, by_acts}

@@ -19,7 +19,8 @@ use Rattle.fh_dispatch.specs.declared.act.Act.TheVariants.{AddJob, BeginSession}
 use Rattle.fh_dispatch.specs.declared.ready.ReadyJob.{ReadyJob}
 use Rattle.fh_dispatch.specs.declared.done.WorkDone.{WorkDone}
 use Rattle.fh_dispatch.specs.declared.done.WorkDone.TheVariants as done
-use Rattle.fh_dispatch.specs.Ready.{jobs_of, in_work, is_busy, with_job, without_jobs_of}
+use Rattle.fh_dispatch.specs.InWork.{in_work, is_busy}
+use Rattle.fh_dispatch.specs.Ready.{jobs_of, with_job, without_jobs_of}
 use Rattle.fh_dispatch.specs.Settings.{is_as, same_trigger, has_other_trigger}
 use Rattle.fh_dispatch.specs.Asks.{Ask, Configure, Ready, Session, Fetch, Nothing}
 use Rattle.fh_dispatch.specs.Rules.{settings_rule}
@@ -27,7 +28,8 @@ use Rattle.fh_dispatch.specs.Acts.{next_after, with_function, acted, by_acts}
 use Rattle.fh_dispatch.specs.Part.{WorkPart, no_work, function_of, number_or}
 use Rattle.fh_dispatch.specs.Outcome.{configured, outcome}
 use Rattle.fh_dispatch.specs.Queues.{queue_of, made_where_missing}
-use Rattle.fh_dispatch.specs.Queues.{trigger_of, is_full, batch_of, unless_full, fetching_queue, asks_queues}
+use Rattle.fh_dispatch.specs.Queues.{trigger_of, is_full, batch_of, unless_full, fetching_queue}
+use Rattle.fh_dispatch.specs.Asked.{asks_queues}
 use Rattle.fh_dispatch.specs.declared.trigger.Trigger.{Trigger}
 use Rattle.fh_dispatch.specs.declared.timer.Timer.{Timer as FunctionTimer}
 use Rattle.fh_dispatch.specs.Timers.{timer_by, timer_found, timer_of, removing, configuring_timers, asks_timers}

@@ -23,7 +23,8 @@ use Rattle.fh_dispatch.specs.declared.done.WorkDone.{WorkDone}
 use Rattle.fh_dispatch.specs.declared.done.WorkDone.TheVariants as done
 use Rattle.fh_dispatch.specs.declared.trigger.Trigger.{Trigger}
 use Rattle.fh_dispatch.specs.Part.{WorkPart, Others, function_of, number_or}
-use Rattle.fh_dispatch.specs.Ready.{in_work, without_jobs_of}
+use Rattle.fh_dispatch.specs.InWork.{in_work}
+use Rattle.fh_dispatch.specs.Ready.{without_jobs_of}
 use Rattle.fh_dispatch.specs.Settings.{is_as, has_other_trigger}
 use Rattle.fh_dispatch.specs.Asks.{Ask, Configure, Ready, Session, Fetch, Nothing}
 use Rattle.fh_dispatch.specs.Rules.{settings_rule}

@@ -18,13 +18,15 @@ use Rattle.fh_dispatch.specs.declared.done.WorkDone.TheVariants as done
 use Rattle.fh_dispatch.specs.declared.ready.Job.TheVariants.{Message, Timer as OfTimer}
 use Rattle.fh_dispatch.specs.declared.ready.ReadyJob.{ReadyJob}
 use Rattle.fh_dispatch.specs.declared.trigger.Trigger.{Trigger}
-use Rattle.fh_dispatch.specs.Ready.{jobs_of, in_work, is_busy, runs_in}
+use Rattle.fh_dispatch.specs.InWork.{in_work, is_busy, runs_in}
+use Rattle.fh_dispatch.specs.Ready.{jobs_of}
 use Rattle.fh_dispatch.specs.Part.{WorkPart, Others, function_of, number_or}
 use Rattle.fh_dispatch.specs.declared.timer.Timer.{Timer as FunctionTimer}
 use Rattle.fh_dispatch.specs.Settings.{same_settings, has_other_trigger}
-use Rattle.fh_dispatch.specs.Asks.{Ask, Configure, Ready, Session, Fetch, Nothing}
+use Rattle.fh_dispatch.specs.Asks.{Ask, Configure, Ready, Session, Fetch, Begin, Finish, Renewals, Nothing}
 use Rattle.fh_dispatch.specs.Outcome.{configured, fetched_job, outcome}
-use Rattle.fh_dispatch.specs.Queues.{trigger_of, batch_of, asks_queues}
+use Rattle.fh_dispatch.specs.Queues.{trigger_of, batch_of}
+use Rattle.fh_dispatch.specs.Asked.{asks_queues}
 use Rattle.fh_dispatch.specs.Timers.{timer_of, asks_timers}
 
 -- the number of the function of this name
@@ -136,13 +138,13 @@ KeepsOtherJobs part m ask after answer =
 
 -- a run is made ready where no job of the function is in work
 abbrev pub FindsNoJob : WorkPart → Ask → Type 0
-FindsNoJob part (Ready function run) = is_busy function part.ready ≡ false
+FindsNoJob part (Ready function run) = is_busy function part ≡ false
 FindsNoJob part ask = ⊤
 
 -- then a function that had one run in work at most has no more
 abbrev pub KeepsOneRun : WorkPart → ℕ → Ask → WorkPart → WorkDone → Type 0
 KeepsOneRun part m ask after answer =
-    FindsNoJob part ask → (f : ℕ) → runs_in f part.ready ≤ 1 → runs_in f after.ready ≤ 1
+    FindsNoJob part ask → (f : ℕ) → runs_in f part ≤ 1 → runs_in f after ≤ 1
 
 -- the ask may bring the function of this number jobs
 abbrev pub brings_jobs : WorkPart → ℕ → Ask → Bool
@@ -153,7 +155,7 @@ brings_jobs part f ask = false
 -- a function that works on messages has no more of them in work than a batch beside its threshold
 abbrev pub IsWithin : WorkPart → Option Trigger → Type 0
 IsWithin after None = ⊥
-IsWithin after (Some trigger) = in_work trigger.function after.ready ≤ trigger.batch + trigger.threshold
+IsWithin after (Some trigger) = in_work trigger.function after ≤ trigger.batch + trigger.threshold
 
 -- so it is behind each fetch
 abbrev pub KeepsToTheBound : WorkPart → ℕ → Ask → WorkPart → WorkDone → Type 0
@@ -163,7 +165,7 @@ KeepsToTheBound part m ask after answer = ⊤
 -- and a function to which the ask brings no jobs has no more of them than before
 abbrev pub BringsNoOthers : WorkPart → ℕ → Ask → WorkPart → WorkDone → Type 0
 BringsNoOthers part m ask after answer =
-    (f : ℕ) → brings_jobs part f ask ≡ false → in_work f after.ready ≤ in_work f part.ready
+    (f : ℕ) → brings_jobs part f ask ≡ false → in_work f after ≤ in_work f part
 
 -- the answer is one to this ask
 abbrev pub answers : Ask → WorkDone → Bool
@@ -232,7 +234,7 @@ ComparesSettings = (one other : FunctionSettings) → (same_settings one other �
 pub record IsFetch (part : WorkPart) (others : Others) (name : List ℕ) (m : ℕ) (answer : WorkDone) : Type 0 where
   pub trigger : Trigger
   pub found : trigger_of name part.functions ≡ Some trigger
-  pub asks : asks_queues part others (Fetch name) ≡ Some (batch_of trigger)
+  pub asks : asks_queues part others (Fetch name) m ≡ Some (batch_of trigger)
   pub told :
       (taken : QueuePart) (given : QueueDone) → queue_outcome.outcome others.queues (batch_of trigger) m
       ≡ Makes taken given

@@ -1,7 +1,7 @@
 // The jobs that are ready.
 ghost use Rattle.std.specs.Prelude.{◌≡◌, ◌+◌, ◌<◌, ◌≤◌, [], length, slice_range, vec_len, vec_capacity, OnOk};
 ghost use Rattle.std.specs.List.Sorted.{IsPartitionPoint};
-ghost use Rattle.fh_dispatch.specs.Ready.{AreInOrder, jobs_of, with_job, without_jobs_of};
+ghost use Rattle.fh_dispatch.specs.Ready.{AreInOrder, jobs_of, with_job, without_first, without_jobs_of};
 
 use fh_timers::TimerRun;
 use std::alloc::{AllocError, Global};
@@ -83,6 +83,14 @@ impl ReadyJobs {
         put(&mut self.jobs, job);
     }
 
+    /// Takes the first job of a function out, where it has one. Takes no memory.
+    pub(crate) fn take_first(&mut self, function: u64)
+        ensures jobs { self.new.rows ≡ without_first function self.old.rows }
+        ensures room { self.old.room ≤ self.new.room }
+    {
+        take_first(&mut self.jobs, function);
+    }
+
     /// Takes all jobs out. Takes no memory.
     pub(crate) fn clear(&mut self)
         ensures jobs { self.new.rows ≡ [] }
@@ -144,6 +152,20 @@ fn place_behind(jobs: &[ReadyJob], function: u64) -> usize
         jobs.now result }
 {
     jobs.partition_point(|job| job.function <= function)
+}
+
+// Takes the first job of a function out, where it has one.
+fn take_first(jobs: &mut Vec<ReadyJob>, function: u64)
+    requires { AreInOrder jobs.old.items }
+    ensures jobs { jobs.new.items ≡ without_first function jobs.old.items }
+    ensures ordered { AreInOrder jobs.new.items }
+    ensures fewer { vec_len jobs.new ≤ vec_len jobs.old }
+    ensures room { vec_capacity jobs.new ≡ vec_capacity jobs.old }
+{
+    let part = bounds_of(jobs, function);
+    if part.start < part.end {
+        let _gone = jobs.remove(part.start);
+    }
 }
 
 // Takes the jobs of a function out.
