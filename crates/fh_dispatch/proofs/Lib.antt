@@ -12,3 +12,4 @@ mod JobLaws
 mod FetchLaws
 pub mod Lawful
 pub mod Comparing
+pub mod FirstJobs

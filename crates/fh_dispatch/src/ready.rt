@@ -162,9 +162,9 @@ fn take_first(jobs: &mut Vec<ReadyJob>, function: u64)
     ensures fewer { vec_len jobs.new ≤ vec_len jobs.old }
     ensures room { vec_capacity jobs.new ≡ vec_capacity jobs.old }
 {
-    let part = bounds_of(jobs, function);
-    if part.start < part.end {
-        let _gone = jobs.remove(part.start);
+    let place = place_before(jobs, function);
+    if place < jobs.len() && jobs[place].function == function {
+        let _gone = jobs.remove(place);
     }
 }
 
