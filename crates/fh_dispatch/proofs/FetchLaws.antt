@@ -35,9 +35,9 @@ module _ (part : WorkPart) (others : Others) (name : List ℕ) (m : ℕ) (after 
 
   by_room : (trigger : Trigger) (full : Bool) → trigger_of name part.functions ≡ Some trigger
       → is_full part trigger ≡ full
-      → asks_queues part others (Fetch name) ≡ unless_full full trigger
+      → asks_queues part others (Fetch name) m ≡ unless_full full trigger
       → made_by part
-      (if full then busy (in_work trigger.function part.ready)
+      (if full then busy (in_work trigger.function part)
       else fetching_by trigger.function (queue_outcome.outcome others.queues (batch_of trigger) m)) ≡ Makes after answer
       → IsFetch part others name m answer
   by_room trigger true found room asks is = absurd (cc)
@@ -49,7 +49,7 @@ module _ (part : WorkPart) (others : Others) (name : List ℕ) (m : ℕ) (after 
   }
 
   by_trigger : (given : Option Trigger) → trigger_of name part.functions ≡ given
-      → asks_queues part others (Fetch name) ≡ fetching_queue part given
+      → asks_queues part others (Fetch name) m ≡ fetching_queue part given
       → made_by part (fetching part others given m) ≡ Makes after answer → IsFetch part others name m answer
   by_trigger None found asks is = absurd (cc)
   by_trigger (Some trigger) found asks is = by_room trigger (is_full part trigger) found refl asks is

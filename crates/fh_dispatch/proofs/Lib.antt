@@ -13,3 +13,6 @@ mod FetchLaws
 pub mod Lawful
 pub mod Comparing
 pub mod FirstJobs
+pub mod Ruled
+pub mod InWork
+pub mod Asking
