@@ -1,5 +1,5 @@
 // On what terms a function's jobs run.
-ghost use Rattle.std.specs.Prelude.{◌≡◌, option_copied, IfOk};
+ghost use Rattle.std.specs.Prelude.{◌≡◌, None, option_copied, IfOk};
 ghost use Rattle.fh_dispatch.specs.Terms.{terms_of, terms_in, poison_beside, blob_poison, poison_above, poison_from, lease_name};
 
 use crate::Work;
@@ -97,7 +97,9 @@ pub(crate) fn lease_name(alloc: Global, function: &str) -> Result<Text, NoMemory
     Ok(Text::new(text))
 }
 
-fn no_messages(singleton: u64) -> Terms {
+fn no_messages(singleton: u64) -> Terms
+    ensures { result ≡ record { limit = 0; retry = 0; singleton = singleton; poison = None } }
+{
     Terms {
         limit: 0,
         retry: 0,
