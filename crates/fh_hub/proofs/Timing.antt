@@ -32,7 +32,7 @@ use Rattle.fh_dispatch.specs.Asks as work
 use Rattle.fh_dispatch.specs.Laws as work_specs
 use Rattle.fh_dispatch.specs.Laws.{number_of}
 use Rattle.fh_dispatch.specs.Part.{WorkPart, function_of}
-use Rattle.fh_dispatch.specs.Ready.{is_busy, runs_in}
+use Rattle.fh_dispatch.specs.InWork.{is_busy, runs_in}
 use Rattle.fh_dispatch.specs.Timers.{timer_by, timer_found, timer_of, asks_timers}
 use Rattle.fh_dispatch.proofs.Lawful as work_laws
 use Rattle.fh_hub.specs.Asked.{arming, ticking, timer_ask_in, work_ask}
@@ -66,7 +66,7 @@ timer-number name part timer is = by_found (function_of name part.functions) ref
 record AsksFor (parts : Parts) (timer : Timer) (ask : TimerAsk) : Type 0 where
   about : (f : ℕ) → laws.is_about f ask ≡ (timer.function == f)
   given : (f : ℕ) → schedule_given f ask ≡ (if timer.function == f then Some timer.schedule else None)
-  busy : laws.is_busy ask ≡ is_busy timer.function parts.work.ready
+  busy : laws.is_busy ask ≡ is_busy timer.function parts.work
   asked : function_asked ask ≡ timer.function
 
 asks_for : (parts : Parts) (command : Command) (timer : Timer) → timer_in parts command ≡ Some timer
@@ -162,7 +162,7 @@ record Timed (events : List Event) (w : World) : Type 0 where
   rising : (f : ℕ) → Rising (due_times f events) w.last (next_of (row_of f w.parts.timers.timers))
   scheduled : (name : List ℕ) (timer : Timer) → timer_of name w.parts.work.functions ≡ Some timer
       → (time : ℕ) → next_of (row_of timer.function w.parts.timers.timers) ≡ Some time → IsScheduled timer time
-  one : (f : ℕ) → runs_in f w.parts.work.ready ≤ 1
+  one : (f : ℕ) → runs_in f w.parts.work ≤ 1
   due : All IsDueInTime events
 
 -- a due time is the next one that was stored, and then comes a later one
@@ -502,7 +502,7 @@ module _ (events : List Event) (w : World) (command : Command) (now : ℕ) (new 
           ∙ ap (λ a. run_made (timers.outcome w.parts.timers a m)) (sym (asks_none w.parts command is)) ∙ makes))
       by_found (Some timer) is (Some run) makes =
           let about = asks_for w.parts command timer is in
-          ap (λ f. is_busy f w.parts.work.ready) about.asked ∙ sym about.busy
+          ap (λ f. is_busy f w.parts.work) about.asked ∙ sym about.busy
           ∙ idle run (timers.outcome w.parts.timers own m) refl makes
 
       by_kind : (b : Bool) → is_timed command ≡ b → work_specs.FindsNoJob w.parts.work given
@@ -512,7 +512,7 @@ module _ (events : List Event) (w : World) (command : Command) (now : ℕ) (new 
           subst (work_specs.FindsNoJob w.parts.work) (sym (work_timed w.parts command m kind))
           (by_found (timer_in w.parts command) refl (run_made (timers.outcome w.parts.timers own m)) refl)
 
-  one_after : (f : ℕ) → runs_in f new.parts.work.ready ≤ 1
+  one_after : (f : ℕ) → runs_in f new.parts.work ≤ 1
   one_after f = work_laws.keeps_one_run w.parts.work (others_of w.parts)
       given m new.parts.work made.done.work h.work made.work finds_none f (h.one f)
 
