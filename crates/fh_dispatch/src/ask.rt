@@ -1,7 +1,5 @@
 // What is asked of the work.
-use fh_blobs::BlobAsk;
 use fh_event::{FunctionSettings, Outcome};
-use fh_leases::LeaseAsk;
 use fh_queues::QueueAsk;
 use fh_timers::TimerRun;
 
@@ -47,16 +45,4 @@ pub enum WorkAsk<'a> {
 #[derive(Clone, Copy)]
 pub(crate) struct Asking<'a> {
     pub(crate) queues: QueueAsk<'a>,
-}
-
-/// What an ask of the work asks of the blobs.
-#[derive(Clone, Copy)]
-pub(crate) struct AskingBlobs<'a> {
-    pub(crate) blobs: BlobAsk<'a>,
-}
-
-/// What an ask of the work asks of the leases.
-#[derive(Clone, Copy)]
-pub(crate) struct AskingLeases<'a> {
-    pub(crate) leases: LeaseAsk<'a>,
 }

@@ -13,7 +13,7 @@ ghost use Rattle.fh_dispatch.specs.Part.{WorkPart};
 ghost use Rattle.fh_dispatch.specs.Rulings.{Acting, ruled, effecting, queues_accept, blobs_accept, leases_accept, queues_in, blobs_in, leases_in};
 ghost use Rattle.fh_dispatch.specs.Stores.{others_of, AreReady};
 
-use crate::ask::{Asking, AskingBlobs, AskingLeases};
+use crate::ask::Asking;
 use crate::fetching::quiet;
 use crate::planning::alone;
 use crate::ruling::{Effect, HOLD, LeaseEffect, QueueEffect, Ruling};
@@ -178,10 +178,8 @@ fn plan_blobs(
     let Some(blobs) = effect else {
         return Ok(None);
     };
-    let asking = AskingBlobs {
-        blobs: BlobAsk::PutAll { blobs },
-    };
-    Ok(Some(stores.blobs.plan(alloc, &asking.blobs, m)?))
+    let ask = BlobAsk::PutAll { blobs };
+    Ok(Some(stores.blobs.plan(alloc, &ask, m)?))
 }
 
 fn plan_leases(
@@ -203,14 +201,14 @@ fn plan_leases(
     let Some(effect) = effect else {
         return Ok(None);
     };
-    let asking = lease_ask(effect);
-    Ok(Some(stores.leases.plan(alloc, &asking.leases, m)?))
+    let ask = lease_ask(effect);
+    Ok(Some(stores.leases.plan(alloc, &ask, m)?))
 }
 
-fn lease_ask<'a>(effect: &'a LeaseEffect) -> AskingLeases<'a>
-    ensures { lease_asks.ask_of result.leases ≡ lease_ask_of effect.now }
+fn lease_ask<'a>(effect: &'a LeaseEffect) -> LeaseAsk<'a>
+    ensures { lease_asks.ask_of result ≡ lease_ask_of effect.now }
 {
-    let leases = match effect {
+    match effect {
         LeaseEffect::Acquire {
             name,
             holder,
@@ -225,6 +223,5 @@ fn lease_ask<'a>(effect: &'a LeaseEffect) -> AskingLeases<'a>
             holder: *holder,
         },
         LeaseEffect::RenewAll { leases } => LeaseAsk::RenewAll { leases },
-    };
-    AskingLeases { leases }
+    }
 }
