@@ -17,3 +17,4 @@ pub mod Ruled
 pub mod InWork
 pub mod Asking
 pub mod Refusing
+pub mod Beginning
