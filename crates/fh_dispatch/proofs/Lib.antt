@@ -16,3 +16,5 @@ pub mod FirstJobs
 pub mod Ruled
 pub mod InWork
 pub mod Asking
+pub mod Refusing
+pub mod Beginning

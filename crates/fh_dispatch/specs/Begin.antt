@@ -20,6 +20,7 @@ use Rattle.fh_dispatch.specs.declared.ready.Job.{Job}
 use Rattle.fh_dispatch.specs.declared.ready.Job.TheVariants.{Message, Timer}
 use Rattle.fh_dispatch.specs.declared.ready.ReadyJob.{ReadyJob}
 use Rattle.fh_dispatch.specs.declared.running.NewRun.{NewRun}
+use Rattle.fh_dispatch.specs.declared.start.Start.{Start as OwnStart}
 use Rattle.fh_dispatch.specs.Part.{WorkPart, Others, function_of}
 use Rattle.fh_dispatch.specs.Ready.{first_job}
 use Rattle.fh_dispatch.specs.Terms.{terms_of, poison_above, lease_name}
@@ -32,6 +33,11 @@ pub record Start : Type 0 where
   pub high : ℕ
   pub low : ℕ
   pub moment : ℕ
+
+-- a start as the code keeps it
+abbrev pub start_of : OwnStart → Start
+start_of start =
+    record { function = start.function.now; high = start.high; low = start.low; moment = start.moment }
 
 abbrev pub text_found : Option BlobRow → Option (List ℕ)
 text_found None = None
@@ -97,6 +103,20 @@ blocking others start =
     if (terms_of start.function.settings).singleton == 0 then None
     else holder_at others.leases (lease_name start.function.name) start.moment
 
+-- a message that is held for the job begins, unless it is blocked
+abbrev pub beginning_held : WorkPart → Others → Start → Row → Ruling
+beginning_held part others start row =
+    unless_blocked (blocking others start)
+    (starting part.next_invocation start (Message row.number row.receipt) (begun_message others row)
+    (message_due (Some row)))
+
+-- and so does a run of a timer
+abbrev pub beginning_run : WorkPart → Others → Start → TimerRun → Ruling
+beginning_run part others start run =
+    unless_blocked (blocking others start)
+    (starting part.next_invocation start (Timer run)
+    (begun_run run (row_of start.function.number others.timers.timers)) never)
+
 -- the message is not held for the job any more
 abbrev pub dropping : Start → ℕ → Ruling
 dropping start number = Changed (record {
@@ -125,9 +145,7 @@ abbrev pub beginning_row : WorkPart → Others → Start → ℕ → Option Row 
 beginning_row part others start number None = dropping start number
 beginning_row part others start number (Some row) =
     moving_or others start row (poison_above (terms_of start.function.settings) row.count)
-    (unless_blocked (blocking others start)
-    (starting part.next_invocation start (Message row.number row.receipt) (begun_message others row)
-    (message_due (Some row))))
+    (beginning_held part others start row)
 
 -- a message that is held for the job is moved where it was taken too often; else it begins unless another holder
 -- has the function's lease, and so does a run of a timer
@@ -135,10 +153,7 @@ abbrev pub beginning_job : WorkPart → Others → Start → Job → Ruling
 beginning_job part others start (Message number receipt) =
     beginning_row part others start number
     (hidden_at start.moment (held_row others.queues number receipt start.moment))
-beginning_job part others start (Timer run) =
-    unless_blocked (blocking others start)
-    (starting part.next_invocation start (Timer run)
-    (begun_run run (row_of start.function.number others.timers.timers)) never)
+beginning_job part others start (Timer run) = beginning_run part others start run
 
 abbrev pub beginning_first : WorkPart → Others → Start → Option ReadyJob → Ruling
 beginning_first part others start None = Unchanged replies.NoJob

@@ -23,6 +23,7 @@ use Rattle.fh_timers.specs.Part.{TimerPart}
 use Rattle.fh_dispatch.specs.declared.change.WorkPlan.{WorkPlan}
 use Rattle.fh_dispatch.specs.Part.{WorkPart}
 use Rattle.fh_dispatch.specs.Outcome.{Outcome}
+use Rattle.fh_dispatch.specs.Rulings.{Acting}
 use Rattle.fh_dispatch.specs.Edits.{planned}
 
 -- a rule is told exactly as it is; want of memory says nothing
@@ -35,6 +36,11 @@ abbrev pub IsPlanOf : WorkPart → Outcome → Result WorkPlan PlanFault → Typ
 IsPlanOf part outcome (Ok plan) = outcome ≡ planned part plan.work
 IsPlanOf part outcome (Err (OfRule rule)) = outcome ≡ Refuses rule
 IsPlanOf part outcome (Err NoMemory) = ⊤
+
+-- a fault is a rule that refuses, and then exactly that one
+abbrev pub IsRefusedBy : PlanFault → Acting → Type 0
+IsRefusedBy (OfRule rule) judged = judged ≡ Refuses rule
+IsRefusedBy NoMemory judged = ⊤
 
 -- the change of the queues is what they make of the ask, and there is none where nothing is asked of them
 abbrev pub IsQueuesPlanOf : QueuePart → Option queues.Ask → ℕ → Option queue_edits.Change → Type 0

@@ -89,7 +89,7 @@ impl Work {
 }
 
 // Nothing changes, and that is told.
-fn quiet(alloc: Global, reply: Reply) -> WorkChange
+pub(crate) fn quiet(alloc: Global, reply: Reply) -> WorkChange
     ensures { result ≡ record { quiet = true; acts = []; done = Told reply } }
 {
     WorkChange {
