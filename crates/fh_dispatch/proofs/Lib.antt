@@ -6,6 +6,7 @@ pub mod Jobs
 pub mod Keys
 pub mod InTurn
 pub mod Indexes
+pub mod Dues
 pub mod Scheduled
 mod Ways
 mod JobLaws
