@@ -86,25 +86,29 @@ lease_in run (Some lease) = record { name = lease_name run.name; holder = run.in
 abbrev pub leases_of : List Due → List HeldLease
 leases_of dues = flat_map (λ due. lease_in due.run due.due_lease) dues
 
-abbrev pub message_part : ℕ → ℕ → Running → Option Row → List RenewalPart
-message_part receipt m run None = []
-message_part receipt m run (Some row) = parts.Message run.invocation receipt (after m 600) ∷ []
+abbrev pub message_part : ℕ → ℕ → ℕ → Option Row → List RenewalPart
+message_part invocation receipt m None = []
+message_part invocation receipt m (Some row) = parts.Message invocation receipt (after m 600) ∷ []
 
-abbrev pub lease_part : ℕ → Running → Option Lease → List RenewalPart
-lease_part m run None = []
-lease_part m run (Some lease) = parts.Lease run.invocation (after m lease.seconds) ∷ []
+abbrev pub lease_part : ℕ → ℕ → Option Lease → List RenewalPart
+lease_part invocation m None = []
+lease_part invocation m (Some lease) = parts.Lease invocation (after m lease.seconds) ∷ []
+
+-- what of an invocation's holds goes on, the message first and under this receipt
+abbrev pub parts_of : ℕ → ℕ → Due → List RenewalPart
+parts_of receipt m due =
+    message_part due.run.invocation receipt m due.due_row ++ lease_part due.run.invocation m due.due_lease
 
 -- the next receipt behind a message that may be due
 abbrev pub receipt_after : ℕ → Option Row → ℕ
 receipt_after receipt None = receipt
 receipt_after receipt (Some row) = receipt + 1
 
--- the holds that go on, with receipts from this one on, invocation by invocation and the message first
+-- the holds that go on, with receipts from this one on, invocation by invocation
 abbrev pub told_from : ℕ → ℕ → List Due → List RenewalPart
 told_from receipt m [] = []
 told_from receipt m (due ∷ dues) =
-    message_part receipt m due.run due.due_row
-    ++ (lease_part m due.run due.due_lease ++ told_from (receipt_after receipt due.due_row) m dues)
+    parts_of receipt m due ++ told_from (receipt_after receipt due.due_row) m dues
 
 abbrev pub own_receipt : Job → ℕ
 own_receipt (Message number receipt) = receipt
