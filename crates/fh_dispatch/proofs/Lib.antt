@@ -17,3 +17,4 @@ pub mod FirstJobs
 pub mod Ruled
 pub mod InWork
 pub mod Asking
+pub mod Renewing
