@@ -143,7 +143,6 @@ fn push_lease(
 }
 
 // Each invocation keeps the new receipt of its message.
-#[tactic(auto, using(crate::proofs::Renewing::receipts_after_push, crate::proofs::Renewing::renewing_acts_push))]
 fn renewing_acts(
     alloc: Global,
     receipt: u64,
@@ -167,7 +166,6 @@ fn renewing_acts(
 }
 
 // The holds that go on, invocation by invocation and the message first.
-#[tactic(auto, using(crate::proofs::Renewing::receipts_after_push, crate::proofs::Renewing::told_from_push))]
 fn told_from(
     alloc: Global,
     receipt: u64,
