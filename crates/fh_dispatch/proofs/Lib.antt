@@ -6,6 +6,7 @@ pub mod Jobs
 pub mod Keys
 pub mod InTurn
 pub mod Indexes
+pub mod Dues
 pub mod Scheduled
 mod Ways
 mod JobLaws
@@ -18,3 +19,4 @@ pub mod InWork
 pub mod Asking
 pub mod Refusing
 pub mod Beginning
+pub mod Renewing

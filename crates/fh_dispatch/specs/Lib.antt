@@ -21,6 +21,7 @@ pub mod Begin
 pub mod Outputs
 pub mod Finish
 pub mod Renewals
+pub mod DueRuns
 pub mod Asked
 pub mod Effects
 pub mod Stores

@@ -7,6 +7,7 @@ use Rattle.fh_event.specs.declared.reply.Reply.TheVariants as replies
 use Rattle.fh_queues.specs.declared.held.HeldMessage.{HeldMessage}
 use Rattle.fh_queues.specs.declared.row.Message.{Message as Row}
 use Rattle.fh_queues.specs.Asks as queues
+use Rattle.fh_queues.specs.Part.{QueuePart}
 use Rattle.fh_queues.specs.Outcome.{after}
 use Rattle.fh_leases.specs.declared.ask.HeldLease.{HeldLease}
 use Rattle.fh_leases.specs.declared.lease.Lease.{Lease}
@@ -18,13 +19,14 @@ use Rattle.fh_dispatch.specs.declared.ready.Job.TheVariants.{Message, Timer}
 use Rattle.fh_dispatch.specs.declared.running.Running.{Running}
 use Rattle.fh_dispatch.specs.Part.{WorkPart, Others}
 use Rattle.fh_dispatch.specs.Terms.{terms_in, lease_name}
+use Rattle.fh_dispatch.specs.Invocations.{due_by}
 use Rattle.fh_dispatch.specs.Holds.{held_row, lease_held, message_due, lease_due}
 use Rattle.fh_dispatch.specs.Rulings.{Ruling, Unchanged, Changed}
 
 -- the message that a job holds
-abbrev pub row_held : Others → ℕ → Job → Option Row
-row_held others m (Message number receipt) = held_row others.queues number receipt m
-row_held others m (Timer run) = None
+abbrev pub row_held : QueuePart → ℕ → Job → Option Row
+row_held queues m (Message number receipt) = held_row queues number receipt m
+row_held queues m (Timer run) = None
 
 abbrev pub row_if_due : ℕ → Option Row → Option Row
 row_if_due m None = None
@@ -56,7 +58,7 @@ due_of row lease m part run = record {
 
 abbrev pub due_at : WorkPart → Others → ℕ → Running → Due
 due_at part others m run =
-    due_of (row_held others m run.job) (lease_held others.leases run.name run.invocation) m part run
+    due_of (row_held others.queues m run.job) (lease_held others.leases run.name run.invocation) m part run
 
 abbrev pub some_of : Bool → Bool → Bool
 some_of true other = true
@@ -68,7 +70,7 @@ is_due due = some_of (is_some due.due_row) (is_some due.due_lease)
 -- those of which a hold is due, in order of number
 abbrev pub due_runs : WorkPart → Others → ℕ → List Due
 due_runs part others m =
-    filter is_due (map (due_at part others m) (filter (λ run. nat_le run.due m) part.running))
+    filter is_due (map (due_at part others m) (due_by m part.running))
 
 abbrev pub held_in : Option Row → List HeldMessage
 held_in None = []
@@ -84,25 +86,29 @@ lease_in run (Some lease) = record { name = lease_name run.name; holder = run.in
 abbrev pub leases_of : List Due → List HeldLease
 leases_of dues = flat_map (λ due. lease_in due.run due.due_lease) dues
 
-abbrev pub message_part : ℕ → ℕ → Running → Option Row → List RenewalPart
-message_part receipt m run None = []
-message_part receipt m run (Some row) = parts.Message run.invocation receipt (after m 600) ∷ []
+abbrev pub message_part : ℕ → ℕ → ℕ → Option Row → List RenewalPart
+message_part invocation receipt m None = []
+message_part invocation receipt m (Some row) = parts.Message invocation receipt (after m 600) ∷ []
 
-abbrev pub lease_part : ℕ → Running → Option Lease → List RenewalPart
-lease_part m run None = []
-lease_part m run (Some lease) = parts.Lease run.invocation (after m lease.seconds) ∷ []
+abbrev pub lease_part : ℕ → ℕ → Option Lease → List RenewalPart
+lease_part invocation m None = []
+lease_part invocation m (Some lease) = parts.Lease invocation (after m lease.seconds) ∷ []
+
+-- what of an invocation's holds goes on, the message first and under this receipt
+abbrev pub parts_of : ℕ → ℕ → Due → List RenewalPart
+parts_of receipt m due =
+    message_part due.run.invocation receipt m due.due_row ++ lease_part due.run.invocation m due.due_lease
 
 -- the next receipt behind a message that may be due
 abbrev pub receipt_after : ℕ → Option Row → ℕ
 receipt_after receipt None = receipt
 receipt_after receipt (Some row) = receipt + 1
 
--- the holds that go on, with receipts from this one on, invocation by invocation and the message first
+-- the holds that go on, with receipts from this one on, invocation by invocation
 abbrev pub told_from : ℕ → ℕ → List Due → List RenewalPart
 told_from receipt m [] = []
 told_from receipt m (due ∷ dues) =
-    message_part receipt m due.run due.due_row
-    ++ (lease_part m due.run due.due_lease ++ told_from (receipt_after receipt due.due_row) m dues)
+    parts_of receipt m due ++ told_from (receipt_after receipt due.due_row) m dues
 
 abbrev pub own_receipt : Job → ℕ
 own_receipt (Message number receipt) = receipt

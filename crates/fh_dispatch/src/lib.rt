@@ -23,6 +23,7 @@ mod ask;
 mod begin;
 mod change;
 mod done;
+mod due;
 mod effecting;
 mod fetching;
 mod finish;
