@@ -235,11 +235,7 @@ fn copy_about(alloc: Global, about: Option<&About>) -> Result<Option<About>, NoM
     }
 }
 
-fn content_of(
-    alloc: Global,
-    blobs: &Blobs,
-    about: Option<&About>,
-) -> Result<Option<Text>, NoMemory>
+fn content_of(alloc: Global, blobs: &Blobs, about: Option<&About>) -> Result<Option<Text>, NoMemory>
     ensures { IfOk result (λ content. content ≡ content_of blobs.now.part (option_copied about.entry)) }
 {
     let Some(about) = about else {

@@ -12,12 +12,7 @@ pub(crate) const NEVER: u64 = 18446744073709551614;
 const EARLY: u64 = 300_000;
 
 /// The live message of this number, where it has this receipt. Takes no memory.
-pub(crate) fn held_row(
-    queues: &Queues,
-    number: u64,
-    receipt: u64,
-    m: Moment,
-) -> Option<&Message>
+pub(crate) fn held_row(queues: &Queues, number: u64, receipt: u64, m: Moment) -> Option<&Message>
     ensures { option_copied result ≡ held_row queues.now.part number receipt m }
 {
     let row = queues.row(number, m)?;
