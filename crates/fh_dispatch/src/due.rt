@@ -5,7 +5,7 @@ ghost use Rattle.fh_dispatch.specs.Holds.{lease_held, held_by};
 ghost use Rattle.fh_dispatch.specs.Renewals.{row_held, row_if_due, lease_if_due, unless_free, due_at, is_due, due_runs, row_due_next, lease_due_next, due_next};
 ghost use Rattle.fh_dispatch.specs.Stores.{others_of};
 
-use crate::holds::{NEVER, held_row, message_due};
+use crate::holds::{EARLY, NEVER, held_row, message_due};
 use crate::stores::Stores;
 use crate::terms::lease_name;
 use crate::{Job, Running, Work};
@@ -13,9 +13,6 @@ use fh_base::{Moment, NoMemory};
 use fh_leases::{Lease, Leases};
 use fh_queues::{Message, Queues};
 use std::alloc::Global;
-
-/// How long before a held message is visible again it may be renewed, in milliseconds.
-const EARLY: u64 = 300_000;
 
 /// How long before its end a lease may be renewed, in milliseconds for each of its seconds.
 const HALF: u64 = 500;

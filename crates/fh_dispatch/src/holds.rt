@@ -9,7 +9,7 @@ use fh_queues::{Message, Queues};
 pub(crate) const NEVER: u64 = 18446744073709551614;
 
 /// How long before a held message is visible again it may be renewed, in milliseconds.
-const EARLY: u64 = 300_000;
+pub(crate) const EARLY: u64 = 300_000;
 
 /// The live message of this number, where it has this receipt. Takes no memory.
 pub(crate) fn held_row(queues: &Queues, number: u64, receipt: u64, m: Moment) -> Option<&Message>
