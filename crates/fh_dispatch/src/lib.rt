@@ -30,6 +30,7 @@ mod function;
 mod invocations;
 mod laws;
 mod note;
+mod outputs;
 mod planning;
 mod queues;
 mod ready;
