@@ -229,7 +229,7 @@ fn end<'a>(
     told: Reply,
 ) -> Result<Ruling<'a>, NoMemory>
     ensures { IfOk result (λ ruling. ruling_of ruling ≡ ending (others_of stores.entry) run.now
-        (option_map queue_ask_of queues.entry) (option_map (λ new. PutAll new.items) blobs.entry) told.entry) }
+        (option_map queue_ask_of queues.entry) (option_map (λ new. PutAll new.items) blobs) told) }
 {
     let leases = free(alloc, stores.leases, run)?;
     let mut acts = Vec::new(alloc);
