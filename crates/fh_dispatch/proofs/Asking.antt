@@ -1,5 +1,6 @@
 -- What rulings about jobs ask of the queues.
 use Rattle.std.proofs.Common.{◌≡◌, ℕ, List, [], ◌∷◌, Option, Some, None}
+use Rattle.fh_base.specs.Limits.{seconds_of_week}
 use Rattle.fh_base.specs.declared.rule.Rule.{Rule}
 use Rattle.fh_event.specs.declared.outcome.Outcome.{Outcome}
 use Rattle.fh_queues.specs.declared.held.HeldMessage.{HeldMessage}
@@ -16,6 +17,7 @@ use Rattle.fh_dispatch.specs.Ready.{first_job}
 use Rattle.fh_dispatch.specs.Terms.{terms_of, terms_in, poison_above, poison_from}
 use Rattle.fh_dispatch.specs.Holds.{held_row, hidden_at}
 use Rattle.fh_dispatch.specs.Outputs.{outcome_rule}
+use Rattle.fh_dispatch.specs.Rules.{range_rule}
 use Rattle.fh_dispatch.specs.Rulings.{Ruling, queues_in}
 use Rattle.fh_dispatch.specs.Begin.{Start, blocking, unless_blocked, moving_or, beginning_row, beginning_job, beginning_first, beginning_found, begin_of}
 use Rattle.fh_dispatch.specs.Finish.{Verdict, Succeeded, Broken, failing_to, held_as, finishing_by, finishing_row, finishing_timer, finishing_job, finishing_run, unless_refused, verdict_of, finish_of}

@@ -167,7 +167,7 @@ fn store<'a>(
     message: Option<HeldMessage>,
     outputs: &'a Outputs,
 ) -> Result<Ruling<'a>, NoMemory>
-    requires { each_output_rule outputs.entry.now ≡ None }
+    requires { each_output_rule outputs.now ≡ None }
     ensures { IfOk result (λ ruling. ruling_of ruling
         ≡ storing (others_of stores.entry) run.now message outputs.entry.now) }
 {
