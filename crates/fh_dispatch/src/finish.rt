@@ -177,7 +177,14 @@ fn store<'a>(
         outputs,
     };
     let blobs = blobs_of(alloc, outputs.as_slice())?;
-    end(alloc, stores, run, Some(completion), Some(blobs), Reply::JobDone)
+    end(
+        alloc,
+        stores,
+        run,
+        Some(completion),
+        Some(blobs),
+        Reply::JobDone,
+    )
 }
 
 // A message that failed too often is moved.
@@ -195,7 +202,14 @@ fn poison<'a>(
 {
     let copy = stores.queues.next_number();
     let moved = QueueEffect::Poison { message, queue };
-    end(alloc, stores, run, Some(moved), None, Reply::JobPoisoned { copy, broken })
+    end(
+        alloc,
+        stores,
+        run,
+        Some(moved),
+        None,
+        Reply::JobPoisoned { copy, broken },
+    )
 }
 
 // Another message that failed is visible again after a delay, of a week at most.
@@ -216,7 +230,14 @@ fn release<'a>(
     }
     let visible_at = m.ms() + delay * MILLISECONDS;
     let released = QueueEffect::Release { message, delay };
-    end(alloc, stores, run, Some(released), None, Reply::JobReleased { visible_at, broken })
+    end(
+        alloc,
+        stores,
+        run,
+        Some(released),
+        None,
+        Reply::JobReleased { visible_at, broken },
+    )
 }
 
 // The invocation ends, and so does its lease.
