@@ -1,5 +1,6 @@
 -- What rulings about jobs ask of the queues.
 use Rattle.std.proofs.Common.{◌≡◌, ℕ, List, [], ◌∷◌, Option, Some, None}
+use Rattle.fh_base.specs.Limits.{seconds_of_week}
 use Rattle.fh_base.specs.declared.rule.Rule.{Rule}
 use Rattle.fh_event.specs.declared.outcome.Outcome.{Outcome}
 use Rattle.fh_queues.specs.declared.held.HeldMessage.{HeldMessage}
@@ -16,9 +17,10 @@ use Rattle.fh_dispatch.specs.Ready.{first_job}
 use Rattle.fh_dispatch.specs.Terms.{terms_of, terms_in, poison_above, poison_from}
 use Rattle.fh_dispatch.specs.Holds.{held_row, hidden_at}
 use Rattle.fh_dispatch.specs.Outputs.{outcome_rule}
+use Rattle.fh_dispatch.specs.Rules.{range_rule}
 use Rattle.fh_dispatch.specs.Rulings.{Ruling, queues_in}
 use Rattle.fh_dispatch.specs.Begin.{Start, blocking, unless_blocked, moving_or, beginning_row, beginning_job, beginning_first, beginning_found, begin_of}
-use Rattle.fh_dispatch.specs.Finish.{Verdict, Succeeded, Broken, failing_to, held_as, finishing_by, finishing_row, finishing_timer, finishing_job, finishing_run, unless_too_large, verdict_of, finish_of}
+use Rattle.fh_dispatch.specs.Finish.{Verdict, Succeeded, Broken, failing_to, held_as, finishing_by, finishing_row, finishing_timer, finishing_job, finishing_run, unless_refused, verdict_of, finish_of}
 use Rattle.fh_dispatch.specs.Renewals.{Due, due_runs, messages_of, renewing_messages, renewing, renewals_of}
 use Rattle.fh_dispatch.specs.Laws.{MayMove, MayEnd, MayRenew}
 
@@ -64,9 +66,15 @@ begin_moves part others name high low m = by_found (function_of name part.functi
 -- ---- an end
 
 module _ (part : WorkPart) (others : Others) (m i : ℕ) where
+  unless_refused_ends : (rule : Option Rule) (ruling : Ruling) → MayEnd i (queues_in ruling)
+      → MayEnd i (queues_in (unless_refused rule ruling))
+  unless_refused_ends None ruling ends = ends
+  unless_refused_ends (Some rule) ruling ends = tt
+
   failing_ends : (terms : Terms) (run : Running) (message : HeldMessage) (broken : Option ℕ) (queue : Option (List ℕ))
       → MayEnd i (queues_in (failing_to others m terms run message broken queue))
-  failing_ends terms run message broken None = tt
+  failing_ends terms run message broken None =
+      unless_refused_ends (range_rule terms.retry 0 seconds_of_week) _ tt
   failing_ends terms run message broken (Some queue) = tt
 
   verdict_ends : (terms : Terms) (run : Running) (row : Row) (verdict : Verdict)
@@ -102,7 +110,7 @@ unfolding finish_of
 finish_ends part others invocation outcome m = by_size (outcome_rule outcome)
   where
     by_size : (rule : Option Rule) → MayEnd invocation (queues_in
-        (unless_too_large rule (finishing_run part others m outcome (run_of invocation part.running))))
+        (unless_refused rule (finishing_run part others m outcome (run_of invocation part.running))))
     by_size None = run_ends part others m invocation outcome (run_of invocation part.running)
     by_size (Some rule) = tt
 

@@ -1,6 +1,7 @@
 -- What the work itself does by its rulings about jobs, and what is told.
 use Rattle.std.proofs.Common.{◌≡◌, ◌⊎◌, inl, inr, ℕ, Bool, true, false, List, [], ◌∷◌, Option, Some, None, refl, sym, ap, ◌∙◌, subst}
 use Rattle.std.specs.Prelude.{⊤, if◌then◌else◌}
+use Rattle.fh_base.specs.Limits.{seconds_of_week}
 use Rattle.fh_base.specs.declared.rule.Rule.{Rule}
 use Rattle.fh_event.specs.declared.begun.BegunJob.{BegunJob}
 use Rattle.fh_event.specs.declared.outcome.Outcome.{Outcome}
@@ -34,9 +35,10 @@ use Rattle.fh_dispatch.specs.Ready.{first_job, is_run}
 use Rattle.fh_dispatch.specs.Terms.{terms_of, terms_in, poison_above, poison_from}
 use Rattle.fh_dispatch.specs.Holds.{held_row, hidden_at, message_due, never}
 use Rattle.fh_dispatch.specs.Outputs.{outcome_rule}
+use Rattle.fh_dispatch.specs.Rules.{range_rule}
 use Rattle.fh_dispatch.specs.Rulings.{Acting, Effect, Ruling, Refused, Unchanged, Changed, unless_refused_by, queues_accept, blobs_accept, leases_accept, effecting, ruled}
 use Rattle.fh_dispatch.specs.Begin.{Start, begun_message, begun_run, blocking, unless_blocked, starting, new_run, moving_or, beginning_row, beginning_job, beginning_first, beginning_found, begin_of}
-use Rattle.fh_dispatch.specs.Finish.{Verdict, Succeeded, Broken, failing_to, finishing_by, finishing_row, finishing_timer, finishing_job, finishing_run, unless_too_large, verdict_of, held_as, finish_of}
+use Rattle.fh_dispatch.specs.Finish.{Verdict, Succeeded, Broken, failing_to, finishing_by, finishing_row, finishing_timer, finishing_job, finishing_run, unless_refused, verdict_of, held_as, finish_of}
 use Rattle.fh_dispatch.specs.Renewals.{Due, due_runs, renewing, renewing_acts, told_from, renewals_of}
 use Rattle.fh_dispatch.specs.Outcome.{made_by}
 use Rattle.fh_dispatch.specs.Laws.{number_for, answers}
@@ -180,10 +182,17 @@ pub record EndsSo (effect : Effect) : Type 0 where
   pub acts : effect.acts ≡ EndRunning ended ∷ []
   pub told : (invocation : ℕ) (outcome : Outcome) → answers (Finish invocation outcome) (done.Told effect.told) ≡ true
 
+unless_refused_so : (rule : Option Rule) (ruling : Ruling) → OfEffect EndsSo ruling
+    → OfEffect EndsSo (unless_refused rule ruling)
+unless_refused_so None ruling so = so
+unless_refused_so (Some rule) ruling so = tt
+
 module _ (others : Others) (m : ℕ) (terms : Terms) (run : Running) where
   failed : (row : Row) (broken : Option ℕ) (queue : Option (List ℕ))
       → OfEffect EndsSo (failing_to others m terms run (held_as row) broken queue)
-  failed row broken None = record { ended = run.invocation; acts = refl; told = λ invocation outcome. refl }
+  failed row broken None =
+      unless_refused_so (range_rule terms.retry 0 seconds_of_week) _
+      (record { ended = run.invocation; acts = refl; told = λ invocation outcome. refl })
   failed row broken (Some queue) = record { ended = run.invocation; acts = refl; told = λ invocation outcome. refl }
 
   by_verdict : (row : Row) (verdict : Verdict) → OfEffect EndsSo (finishing_by others m terms run row verdict)
@@ -216,7 +225,7 @@ finish_acts part others invocation outcome m = by_size (outcome_rule outcome)
     by_run_of (Some run) = by_job_of run run.job
 
     by_size : (rule : Option Rule) → OfEffect EndsSo
-        (unless_too_large rule (finishing_run part others m outcome (run_of invocation part.running)))
+        (unless_refused rule (finishing_run part others m outcome (run_of invocation part.running)))
     by_size None = by_run_of (run_of invocation part.running)
     by_size (Some rule) = tt
 

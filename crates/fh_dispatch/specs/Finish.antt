@@ -1,5 +1,6 @@
 -- How an invocation ends.
 use Rattle.std.specs.Prelude.{ℕ, List, [], ◌∷◌, Option, Some, None}
+use Rattle.fh_base.specs.Limits.{seconds_of_week}
 use Rattle.fh_base.specs.Rules.{rule_number}
 use Rattle.fh_base.specs.declared.rule.Rule.{Rule}
 use Rattle.fh_base.specs.declared.rule.Rule.TheVariants.{NoSuchInvocation}
@@ -25,6 +26,7 @@ use Rattle.fh_dispatch.specs.Invocations.{run_of}
 use Rattle.fh_dispatch.specs.Terms.{terms_in, poison_from, lease_name}
 use Rattle.fh_dispatch.specs.Holds.{held_row, lease_held}
 use Rattle.fh_dispatch.specs.Outputs.{outcome_rule, outputs_rule, blobs_of}
+use Rattle.fh_dispatch.specs.Rules.{range_rule}
 use Rattle.fh_dispatch.specs.Rulings.{Ruling, Refused, Changed}
 
 -- a lease goes whose last holder the invocation is
@@ -63,14 +65,25 @@ verdict_of others m message (Done outputs) =
     unless_broken (outputs_rule others.queues m message outputs) outputs
 verdict_of others m message (Failed cause) = Broken None
 
--- a message that failed is moved or released
-abbrev pub failing_to : Others → ℕ → Terms → Running → HeldMessage → Option ℕ → Option (List ℕ) → Ruling
-failing_to others m terms run message broken (Some queue) =
+abbrev pub unless_refused : Option Rule → Ruling → Ruling
+unless_refused None ruling = ruling
+unless_refused (Some rule) ruling = Refused rule
+
+-- a message that failed too often is moved
+abbrev pub moving : Others → Running → HeldMessage → Option ℕ → List ℕ → Ruling
+moving others run message broken queue =
     ending others run (Some (queues.Poison message queue)) None
     (replies.JobPoisoned others.queues.next_number broken)
-failing_to others m terms run message broken None =
-    ending others run (Some (queues.Release message terms.retry)) None
-    (replies.JobReleased (after m terms.retry) broken)
+
+-- another one is released, for a week at most
+abbrev pub releasing : Others → ℕ → ℕ → Running → HeldMessage → Option ℕ → Ruling
+releasing others m retry run message broken =
+    unless_refused (range_rule retry 0 seconds_of_week)
+    (ending others run (Some (queues.Release message retry)) None (replies.JobReleased (after m retry) broken))
+
+abbrev pub failing_to : Others → ℕ → Terms → Running → HeldMessage → Option ℕ → Option (List ℕ) → Ruling
+failing_to others m terms run message broken (Some queue) = moving others run message broken queue
+failing_to others m terms run message broken None = releasing others m terms.retry run message broken
 
 abbrev pub held_as : Row → HeldMessage
 held_as row = record { number = row.number; receipt = row.receipt }
@@ -100,12 +113,8 @@ abbrev pub finishing_run : WorkPart → Others → ℕ → Outcome → Option Ru
 finishing_run part others m outcome None = Refused NoSuchInvocation
 finishing_run part others m outcome (Some run) = finishing_job part others m run outcome run.job
 
-abbrev pub unless_too_large : Option Rule → Ruling → Ruling
-unless_too_large None ruling = ruling
-unless_too_large (Some rule) ruling = Refused rule
-
 -- the invocation of this number comes to this outcome
 unfoldable pub finish_of : WorkPart → Others → ℕ → Outcome → ℕ → Ruling
 finish_of part others invocation outcome m =
-    unless_too_large (outcome_rule outcome)
+    unless_refused (outcome_rule outcome)
     (finishing_run part others m outcome (run_of invocation part.running))

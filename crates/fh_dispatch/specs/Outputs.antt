@@ -10,17 +10,19 @@ use Rattle.fh_event.specs.declared.outcome.Output.{Output}
 use Rattle.fh_event.specs.declared.outcome.Output.TheVariants.{Queue, Blob}
 use Rattle.fh_queues.specs.declared.held.HeldMessage.{HeldMessage}
 use Rattle.fh_queues.specs.Part.{QueuePart}
+use Rattle.fh_queues.specs.Rules.{first_broken}
 use Rattle.fh_queues.specs.Rules as queues
 use Rattle.fh_blobs.specs.declared.ask.NewBlob.{NewBlob}
 use Rattle.fh_blobs.specs.Rules as blobs
-use Rattle.fh_dispatch.specs.Rules.{first_broken, range_rule}
+use Rattle.fh_dispatch.specs.Rules.{range_rule}
+
+abbrev pub size_rule : ℕ → ℕ → Option Rule
+size_rule size limit = if nat_lt limit size then Some (TooLarge size limit) else None
 
 -- a cause has at most 1,024 bytes, and a list at most 65,536 outputs
 abbrev pub outcome_rule : Outcome → Option Rule
-outcome_rule (Failed cause) =
-    if nat_lt 1024 (length cause) then Some (TooLarge (length cause) 1024) else None
-outcome_rule (Done outputs) =
-    if nat_lt 65536 (length outputs) then Some (TooLarge (length outputs) 65536) else None
+outcome_rule (Failed cause) = size_rule (length cause) 1024
+outcome_rule (Done outputs) = size_rule (length outputs) 65536
 
 abbrev pub container_rule : List ℕ → Option Rule
 container_rule name = if is_queue_name name then None else Some BadName
@@ -28,18 +30,23 @@ container_rule name = if is_queue_name name then None else Some BadName
 abbrev pub blob_name_rule : List ℕ → Option Rule
 blob_name_rule name = if is_blob_name name then None else Some BadName
 
+abbrev pub blob_rule : List ℕ → List ℕ → List ℕ → Option Rule
+blob_rule container blob text =
+    first_broken (container_rule container ∷ blob_name_rule blob ∷ blobs.text_rule text ∷ [])
+
 -- the names of an output, and its text
 abbrev pub output_rule : Output → Option Rule
 output_rule (Queue queue text) = queues.output_rule (Queue queue text)
-output_rule (Blob container blob text) =
-    first_broken (container_rule container ∷ blob_name_rule blob ∷ blobs.text_rule text ∷ [])
+output_rule (Blob container blob text) = blob_rule container blob text
+
+abbrev pub each_output_rule : List Output → Option Rule
+each_output_rule outputs = first_broken (map output_rule outputs)
 
 -- at most 1,000 outputs, each by its own rules, and room for the messages among them
 abbrev pub outputs_rule : QueuePart → ℕ → Option HeldMessage → List Output → Option Rule
 outputs_rule part m message outputs =
     first_broken
-    (range_rule (length outputs) 0 1000 ∷ first_broken (map output_rule outputs)
-    ∷ queues.room_rule part m message outputs ∷ [])
+    (range_rule (length outputs) 0 1000 ∷ each_output_rule outputs ∷ queues.room_rule part m message outputs ∷ [])
 
 -- the outputs that are blobs, in order
 abbrev pub blobs_of : List Output → List NewBlob

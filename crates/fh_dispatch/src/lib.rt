@@ -32,6 +32,7 @@ mod holds;
 mod invocations;
 mod laws;
 mod note;
+mod outputs;
 mod planning;
 mod queues;
 mod ready;
