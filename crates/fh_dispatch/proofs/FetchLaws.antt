@@ -4,7 +4,6 @@ use Rattle.std.specs.Prelude.{if◌then◌else◌}
 use Rattle.fh_event.specs.declared.reply.Reply.TheVariants.{Fetched}
 use Rattle.fh_event.specs.Judging.{Judged, Refuses, Quiets, Makes}
 use Rattle.fh_queues.specs.declared.done.QueueDone.{QueueDone}
-use Rattle.fh_queues.specs.Asks as queues
 use Rattle.fh_queues.specs.Outcome as queue_outcome
 use Rattle.fh_queues.specs.Part.{QueuePart}
 use Rattle.fh_queues.specs.Tellings.{items_in}

@@ -1,11 +1,11 @@
 -- The first job of a function, where all jobs stand in order of function number.
-use Rattle.std.proofs.Common.{◌≡◌, ℕ, zero, suc, ◌+◌, ◌-◌, ◌<◌, ◌≤◌, Bool, true, false, List, [], ◌∷◌, ◌++◌, length, take, drop, filter, find, Option, Some, None, refl, ap, sym, ◌∙◌, inl, inr, arith}
+use Rattle.std.proofs.Common.{◌≡◌, ℕ, zero, suc, ◌<◌, ◌≤◌, Bool, true, false, List, [], ◌∷◌, length, refl, ap, sym, inl, inr, arith}
 use Rattle.std.specs.Prelude.{◌==◌, if◌then◌else◌, slice_index_or}
 use Rattle.std.specs.List.{remove, All, AllWithin}
 use Rattle.std.proofs.lemmas.Bool.{cases_lt}
 use Rattle.std.proofs.lemmas.Bool.Decides.{nat_tests}
 use Rattle.fh_dispatch.specs.declared.ready.ReadyJob.{ReadyJob}
-use Rattle.fh_dispatch.specs.Ready.{AreInOrder, jobs_of, first_job, without_first}
+use Rattle.fh_dispatch.specs.Ready.{AreInOrder, without_first}
 use Rattle.fh_dispatch.proofs.Jobs.{ordered-cons, ordered-first, ordered-rest}
 
 slice_index_or-same : (xs : List ReadyJob) (k : ℕ) (e d : ReadyJob) → k < length xs

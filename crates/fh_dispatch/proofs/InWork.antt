@@ -1,12 +1,11 @@
 -- What becomes of the jobs in work of each function.
-use Rattle.std.proofs.Common.{◌≡◌, ◌⊎◌, inl, inr, ℕ, ◌+◌, ◌≤◌, Bool, true, false, List, [], ◌∷◌, ◌++◌, length, map, filter, find, Option, Some, None, refl, sym, ap, ◌∙◌, subst, arith, length-append}
+use Rattle.std.proofs.Common.{◌≡◌, inl, inr, ℕ, ◌+◌, ◌≤◌, Bool, true, false, List, [], ◌∷◌, length, filter, Some, refl, sym, ap, ◌∙◌, subst, arith, length-append}
 use Rattle.std.specs.Prelude.{◌==◌, not, if◌then◌else◌}
-use Rattle.std.specs.Ordering.{is_eq, is_ne, nat_cmp}
+use Rattle.std.specs.Ordering.{is_eq, is_ne}
 use Rattle.std.proofs.lemmas.Bool.{eqb-true}
 use Rattle.std.proofs.lemmas.Bool.Decides.{nat_tests}
-use Rattle.std.proofs.lemmas.List.{length-map, append-nil}
+use Rattle.std.proofs.lemmas.List.{length-map}
 use Rattle.std.proofs.lemmas.List.Elements.{filter-append}
-use Rattle.fh_rows.specs.Rows.{with_change_at}
 use Rattle.fh_dispatch.specs.declared.act.Act.{Act}
 use Rattle.fh_dispatch.specs.declared.act.Act.TheVariants.{TakeFirst, AddRunning, EndRunning, RenewRunning}
 use Rattle.fh_dispatch.specs.declared.ready.Job.{Job}
@@ -22,7 +21,7 @@ use Rattle.fh_dispatch.specs.Ready.{jobs_of, first_job, is_run, without_first, w
 use Rattle.fh_dispatch.specs.Renewals.{Due, renewing_acts, receipt_after}
 use Rattle.fh_dispatch.proofs.Filters.{filter-filter, filter-map}
 use Rattle.fh_dispatch.proofs.Keys.{is_eq-nat_cmp}
-use Rattle.fh_dispatch.proofs.Ruled.{IsBeginning, Starts}
+use Rattle.fh_dispatch.proofs.Ruled.{IsBeginning}
 
 -- ---- the first job of a function
 

@@ -1,6 +1,6 @@
 -- What becomes of the ready jobs of each function.
 use Rattle.std.proofs.Common.{◌≡◌, inl, inr, ℕ, ◌+◌, ◌≤◌, Bool, true, false, List, [], ◌∷◌, ◌++◌, length, map, filter, Option, Some, None, refl, sym, ap, ◌∙◌, subst, arith, length-append, append_assoc}
-use Rattle.std.specs.Prelude.{◌==◌, nat_lt, if◌then◌else◌}
+use Rattle.std.specs.Prelude.{◌==◌, if◌then◌else◌}
 use Rattle.std.proofs.lemmas.Bool.{eqb-true}
 use Rattle.std.proofs.lemmas.Bool.Decides.{nat_tests}
 use Rattle.std.proofs.lemmas.List.{length-map, append-nil}
@@ -8,14 +8,12 @@ use Rattle.std.proofs.lemmas.List.Elements.{filter-append}
 use Rattle.fh_event.specs.declared.settings.FunctionSettings.{FunctionSettings}
 use Rattle.fh_base.specs.Names.{is_queue_name}
 use Rattle.fh_event.specs.declared.settings.FunctionSettings.TheVariants as forms
-use Rattle.fh_event.specs.declared.reply.FetchedJob.{FetchedJob}
 use Rattle.fh_event.specs.declared.reply.Item.{Item}
 use Rattle.fh_event.specs.declared.reply.Reply.TheVariants as replies
 use Rattle.fh_timers.specs.declared.done.TimerRun.{TimerRun}
 use Rattle.fh_dispatch.specs.declared.act.Act.{Act}
 use Rattle.fh_dispatch.specs.declared.act.Act.TheVariants.{AddJob, EndRunning, BeginSession}
 use Rattle.fh_dispatch.specs.declared.function.Function.{Function}
-use Rattle.fh_dispatch.specs.declared.ready.Job.TheVariants as jobs
 use Rattle.fh_dispatch.specs.declared.ready.ReadyJob.{ReadyJob}
 use Rattle.fh_dispatch.specs.declared.done.WorkDone.{WorkDone}
 use Rattle.fh_dispatch.specs.declared.done.WorkDone.TheVariants as done
@@ -25,12 +23,11 @@ use Rattle.fh_dispatch.specs.InWork.{in_work, is_busy, runs_in}
 use Rattle.fh_dispatch.specs.Ready.{jobs_of, is_run, with_job, without_first, without_jobs_of}
 use Rattle.fh_dispatch.specs.Invocations.{runs_of}
 use Rattle.fh_dispatch.specs.declared.ready.Job.{Job}
-use Rattle.fh_dispatch.specs.Settings.{has_other_trigger}
-use Rattle.fh_dispatch.specs.Asks.{Ask, Configure, Ready, Session, Fetch, Nothing}
+use Rattle.fh_dispatch.specs.Asks.{Ask, Configure, Session}
 use Rattle.fh_dispatch.specs.Acts.{acted, by_acts}
 use Rattle.fh_dispatch.specs.Queues.{inner_queue, trigger_on, trigger_by, trigger_found, trigger_of, is_full}
 use Rattle.fh_dispatch.specs.Outcome.{message_job, adding, fetched_job}
-use Rattle.fh_dispatch.specs.Laws.{OfEachAsk, number_for, fetched_in, jobs_told, HasJobsAsAsked, is_about, KeepsOtherJobs, FindsNoJob, KeepsOneRun, brings_jobs, IsWithin, KeepsToTheBound, BringsNoOthers}
+use Rattle.fh_dispatch.specs.Laws.{OfEachAsk, number_for, jobs_told, HasJobsAsAsked, KeepsOtherJobs, FindsNoJob, KeepsOneRun, brings_jobs, IsWithin, KeepsToTheBound, BringsNoOthers}
 use Rattle.fh_dispatch.proofs.Naming.{own_number}
 use Rattle.fh_dispatch.proofs.Jobs.{jobs_of-with_own, jobs_of-with_other, jobs_of-without_own, jobs_of-without_other}
 use Rattle.fh_dispatch.specs.Renewals.{renewing_acts}

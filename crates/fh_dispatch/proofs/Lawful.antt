@@ -1,16 +1,11 @@
 -- What every layer above may cite: one lemma for each law of the work.
-use Rattle.std.proofs.Common.{◌≡◌, ◌⊎◌, inl, inr, ℕ, ◌+◌, ◌<◌, ◌≤◌, Bool, true, false, List, [], ◌∷◌, ◌++◌, length, Option, Some, None, refl, sym, ap, ◌∙◌, subst, arith, length-append}
-use Rattle.std.specs.Prelude.{◌==◌, not, if◌then◌else◌, option_map, IfSome}
+use Rattle.std.proofs.Common.{◌≡◌, ◌⊎◌, inl, inr, ℕ, ◌+◌, ◌<◌, ◌≤◌, Bool, true, false, List, [], ◌∷◌, Option, Some, None, refl, sym, ap, ◌∙◌, subst, arith}
+use Rattle.std.specs.Prelude.{not, if◌then◌else◌, option_map, IfSome}
 use Rattle.std.specs.Str.{bytes_eq}
-use Rattle.std.proofs.lemmas.Bool.{eqb-true}
-use Rattle.std.proofs.lemmas.Bool.Decides.{nat_tests}
-use Rattle.fh_base.specs.declared.rule.Rule.{Rule}
 use Rattle.fh_event.specs.declared.settings.FunctionSettings.{FunctionSettings}
 use Rattle.fh_event.specs.declared.settings.FunctionSettings.TheVariants.{Queue, Blob, Timer}
 use Rattle.fh_ncrontab.specs.Schedule.{are_masks, with_masks}
 use Rattle.fh_timers.specs.declared.ask.TimerAsk.TheVariants.{Remove}
-use Rattle.fh_timers.specs.declared.done.TimerRun.{TimerRun}
-use Rattle.fh_event.specs.Judging.{Quiets, Makes, unless_refused}
 use Rattle.fh_queues.specs.Asks as queues
 use Rattle.fh_queues.specs.Part.{has_queue}
 use Rattle.fh_dispatch.specs.declared.function.Function.{Function}
@@ -19,14 +14,12 @@ use Rattle.fh_dispatch.specs.declared.act.Act.TheVariants.{AddJob, BeginSession}
 use Rattle.fh_dispatch.specs.declared.ready.ReadyJob.{ReadyJob}
 use Rattle.fh_dispatch.specs.declared.done.WorkDone.{WorkDone}
 use Rattle.fh_dispatch.specs.declared.done.WorkDone.TheVariants as done
-use Rattle.fh_dispatch.specs.InWork.{in_work, is_busy}
-use Rattle.fh_dispatch.specs.Ready.{jobs_of, with_job, without_jobs_of}
 use Rattle.fh_dispatch.specs.Settings.{is_as, same_trigger, has_other_trigger}
 use Rattle.fh_dispatch.specs.Asks.{Ask, Configure, Ready, Session, Fetch, Begin, Finish, Renewals, Nothing}
 use Rattle.fh_dispatch.specs.Rules.{settings_rule}
-use Rattle.fh_dispatch.specs.Acts.{next_after, with_function, acted, by_acts}
+use Rattle.fh_dispatch.specs.Acts.{acted, by_acts}
 use Rattle.fh_dispatch.specs.Part.{WorkPart, no_work, function_of, number_or}
-use Rattle.fh_dispatch.specs.Outcome.{configured, outcome}
+use Rattle.fh_dispatch.specs.Outcome.{outcome}
 use Rattle.fh_dispatch.specs.Queues.{queue_of, made_where_missing}
 use Rattle.fh_dispatch.specs.Queues.{trigger_of, is_full, batch_of, unless_full, fetching_queue}
 use Rattle.fh_dispatch.specs.Asked.{asks_queues}
@@ -34,7 +27,7 @@ use Rattle.fh_dispatch.specs.declared.trigger.Trigger.{Trigger}
 use Rattle.fh_dispatch.specs.declared.timer.Timer.{Timer as FunctionTimer}
 use Rattle.fh_dispatch.specs.Timers.{timer_by, timer_found, timer_of, removing, configuring_timers, asks_timers}
 use Rattle.fh_dispatch.specs.Laws.{number_of, HasSchedule, IsWhole, OfEachAsk, StaysWhole, KeepsNumbers, GivesNumbersInTurn, IsAsConfigured, KeepsUnnamed, number_for, answers, AnswersTheAsk, MovesNumbers, is_configure, AsksAsItSays, AsksOnlyToRemove, HasTimer, KeepsTimers}
-use Rattle.fh_dispatch.proofs.Naming.{same_name, own_name, own_number, function_of-set}
+use Rattle.fh_dispatch.proofs.Naming.{same_name, own_name}
 use Rattle.fh_dispatch.proofs.Scheduled.{is_scheduled}
 use Rattle.fh_dispatch.proofs.Ways.{function_for, gets_other_trigger, job_for, Ways, by_ways, number_for-known, number_for-new, next_after-next, next_after-given, next_after-least, next_after-most, session-set, invocations-set, after_set, function-after_set, numbers_after, next-after_set, SameFunctions, same-ready, same-session, same-added, session-added, invocations-added, KeepsCounters, kept-begun, kept-ended, kept-renewed, kept-counters, ways_by_functions}
 use Rattle.fh_dispatch.proofs.Asking.{begin_moves, finish_ends, renewals_renew}

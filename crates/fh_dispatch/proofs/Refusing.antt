@@ -1,5 +1,5 @@
 -- The plan of an effect that a store refuses.
-use Rattle.std.proofs.Common.{◌≡◌, Err, refl}
+use Rattle.std.proofs.Common.{Err, refl}
 use Rattle.fh_event.specs.declared.faults.PlanFault.{PlanFault}
 use Rattle.fh_event.specs.declared.faults.PlanFault.TheVariants.{Rule as OfRule, NoMemory}
 use Rattle.fh_dispatch.specs.Faults.{IsRefusedBy, IsPlanOf}

@@ -1,12 +1,11 @@
 -- What the work itself does by its rulings about jobs, and what is told.
-use Rattle.std.proofs.Common.{◌≡◌, ◌⊎◌, inl, inr, ℕ, Bool, true, false, List, [], ◌∷◌, Option, Some, None, refl, sym, ap, ◌∙◌, subst}
-use Rattle.std.specs.Prelude.{⊤, if◌then◌else◌}
+use Rattle.std.proofs.Common.{◌≡◌, ◌⊎◌, inl, inr, ℕ, true, false, List, [], ◌∷◌, Option, Some, None, refl, sym, ap, ◌∙◌}
+use Rattle.std.specs.Prelude.{⊤}
 use Rattle.fh_base.specs.Limits.{seconds_of_week}
 use Rattle.fh_base.specs.declared.rule.Rule.{Rule}
 use Rattle.fh_event.specs.declared.begun.BegunJob.{BegunJob}
 use Rattle.fh_event.specs.declared.outcome.Outcome.{Outcome}
 use Rattle.fh_event.specs.declared.reply.RenewalPart.{RenewalPart}
-use Rattle.fh_event.specs.declared.reply.Reply.{Reply}
 use Rattle.fh_event.specs.declared.reply.Reply.TheVariants as replies
 use Rattle.fh_event.specs.Judging.{Judged, Refuses, Quiets, Makes}
 use Rattle.fh_queues.specs.declared.row.Message.{Message as Row}
@@ -28,16 +27,15 @@ use Rattle.fh_dispatch.specs.declared.running.NewRun.{NewRun}
 use Rattle.fh_dispatch.specs.declared.running.Running.{Running}
 use Rattle.fh_dispatch.specs.declared.terms.Terms.{Terms}
 use Rattle.fh_dispatch.specs.Part.{WorkPart, Others, function_of, number_or}
-use Rattle.fh_dispatch.specs.Asks.{Ask, Begin, Finish}
-use Rattle.fh_dispatch.specs.Acts.{by_acts}
+use Rattle.fh_dispatch.specs.Asks.{Begin, Finish}
 use Rattle.fh_dispatch.specs.Invocations.{run_of}
 use Rattle.fh_dispatch.specs.Ready.{first_job, is_run}
 use Rattle.fh_dispatch.specs.Terms.{terms_of, terms_in, poison_above, poison_from}
 use Rattle.fh_dispatch.specs.Holds.{held_row, hidden_at, message_due, never}
 use Rattle.fh_dispatch.specs.Outputs.{outcome_rule}
 use Rattle.fh_dispatch.specs.Rules.{range_rule}
-use Rattle.fh_dispatch.specs.Rulings.{Acting, Effect, Ruling, Refused, Unchanged, Changed, unless_refused_by, queues_accept, blobs_accept, leases_accept, effecting, ruled}
-use Rattle.fh_dispatch.specs.Begin.{Start, begun_message, begun_run, blocking, unless_blocked, starting, new_run, moving_or, beginning_row, beginning_job, beginning_first, beginning_found, begin_of}
+use Rattle.fh_dispatch.specs.Rulings.{Acting, Effect, Ruling, Refused, Unchanged, Changed, unless_refused_by, queues_accept, blobs_accept, leases_accept, effecting}
+use Rattle.fh_dispatch.specs.Begin.{Start, begun_message, blocking, unless_blocked, starting, new_run, moving_or, beginning_row, beginning_job, beginning_first, beginning_found, begin_of}
 use Rattle.fh_dispatch.specs.Finish.{Verdict, Succeeded, Broken, failing_to, finishing_by, finishing_row, finishing_timer, finishing_job, finishing_run, unless_refused, verdict_of, held_as, finish_of}
 use Rattle.fh_dispatch.specs.Renewals.{Due, due_runs, renewing, renewing_acts, told_from, renewals_of}
 use Rattle.fh_dispatch.specs.Outcome.{made_by}

@@ -25,7 +25,7 @@ use Rattle.fh_dispatch.specs.Part.{WorkPart, Others, function_of}
 use Rattle.fh_dispatch.specs.Ready.{first_job}
 use Rattle.fh_dispatch.specs.Terms.{terms_of, poison_above, lease_name}
 use Rattle.fh_dispatch.specs.Holds.{held_row, hidden_at, message_due, never}
-use Rattle.fh_dispatch.specs.Rulings.{Effect, Ruling, Refused, Unchanged, Changed}
+use Rattle.fh_dispatch.specs.Rulings.{Ruling, Refused, Unchanged, Changed}
 
 -- a function whose first job is to begin at a moment, and the halves of the invocation's random bytes
 pub record Start : Type 0 where

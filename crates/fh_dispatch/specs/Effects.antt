@@ -1,7 +1,6 @@
 -- Effects as the code keeps them, with the asks that they are.
-use Rattle.std.specs.Prelude.{ℕ, List, Option, option_map}
+use Rattle.std.specs.Prelude.{option_map}
 use Rattle.fh_queues.specs.Asks as queues
-use Rattle.fh_blobs.specs.declared.ask.NewBlob.{NewBlob}
 use Rattle.fh_blobs.specs.Asks as blobs
 use Rattle.fh_leases.specs.Asks as leases
 use Rattle.fh_dispatch.specs.declared.ruling.QueueEffect.{QueueEffect}

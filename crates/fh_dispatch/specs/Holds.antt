@@ -1,5 +1,5 @@
 -- What a job and an invocation hold: a message by its receipt, and the lease of a function.
-use Rattle.std.specs.Prelude.{ℕ, ◌+◌, ◌*◌, ◌-◌, ◌==◌, nat_lt, min, if◌then◌else◌, List, Option, Some, None}
+use Rattle.std.specs.Prelude.{ℕ, ◌*◌, ◌-◌, ◌==◌, nat_lt, if◌then◌else◌, List, Option, Some, None}
 use Rattle.fh_queues.specs.declared.row.Message.{Message as Row}
 use Rattle.fh_queues.specs.Part.{QueuePart}
 use Rattle.fh_queues.specs.Rows.{live_row}

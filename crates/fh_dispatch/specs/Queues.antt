@@ -8,7 +8,7 @@ use Rattle.fh_queues.specs.Asks as queues
 use Rattle.fh_queues.specs.Part.{QueuePart, has_queue}
 use Rattle.fh_dispatch.specs.declared.function.Function.{Function}
 use Rattle.fh_dispatch.specs.declared.trigger.Trigger.{Trigger}
-use Rattle.fh_dispatch.specs.Part.{WorkPart, Others, function_of, number_or}
+use Rattle.fh_dispatch.specs.Part.{WorkPart, function_of, number_or}
 use Rattle.fh_dispatch.specs.InWork.{in_work}
 use Rattle.fh_dispatch.specs.Settings.{is_as}
 

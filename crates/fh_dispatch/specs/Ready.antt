@@ -1,5 +1,5 @@
 -- The jobs that are ready: in order of function number, and those of a function in the order in which they came.
-use Rattle.std.specs.Prelude.{ℕ, ◌==◌, nat_le, nat_lt, Bool, true, false, not, if◌then◌else◌, List, [], ◌∷◌, ◌++◌, length, filter, find, Option}
+use Rattle.std.specs.Prelude.{ℕ, ◌==◌, nat_le, nat_lt, Bool, true, false, not, if◌then◌else◌, List, [], ◌∷◌, ◌++◌, filter, find, Option}
 use Rattle.std.specs.List.Sorted.{IsNonDecreasingBy}
 use Rattle.fh_dispatch.specs.declared.ready.Job.{Job}
 use Rattle.fh_dispatch.specs.declared.ready.Job.TheVariants.{Message, Timer}

@@ -71,4 +71,6 @@ pub use trigger::Trigger;
 pub use work::Work;
 
 #[cfg(test)]
+mod job_tests;
+#[cfg(test)]
 mod tests;

@@ -1,5 +1,4 @@
-use Rattle.std.proofs.Common.{◌≡◌, ◌<◌, ◌≤◌, length, arith}
-use Rattle.std.proofs.SliceLists.{hd}
+use Rattle.std.proofs.Common.{arith}
 use Rattle.fh_dispatch.proofs.FirstJobs.{without_first-at, without_first-lower, without_first-later}
 use Rattle.fh_dispatch.proofs.ready.first_place.Goals as goal
 

@@ -1,9 +1,8 @@
-use Rattle.std.proofs.Common.{◌≡◌, ◌+◌, ◌++◌, ◌∷◌, [], ℕ, List, map, take, ap, sym, ◌∙◌, arith}
-use Rattle.std.specs.Prelude.{option_copied}
+use Rattle.std.proofs.Common.{◌≡◌, ◌+◌, ◌++◌, ◌∷◌, [], take, ap, sym, ◌∙◌, arith}
 use Rattle.std.proofs.lemmas.Grind.{common_steps}
 use Rattle.fh_dispatch.specs.declared.act.Act.TheVariants.{RenewRunning}
 use Rattle.fh_dispatch.specs.DueRuns.{due_with, dues_with}
-use Rattle.fh_dispatch.specs.Renewals.{Due, due_next, receipt_for, receipt_after, renewing_acts}
+use Rattle.fh_dispatch.specs.Renewals.{receipt_for, receipt_after, renewing_acts}
 use Rattle.fh_dispatch.proofs.Renewing.{receipts_after, receipts_after_push, act_of, renewing_acts_push}
 use Rattle.fh_dispatch.proofs.renewals.renewing_acts.Goals as goal
 

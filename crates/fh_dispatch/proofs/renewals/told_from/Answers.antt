@@ -1,8 +1,7 @@
-use Rattle.std.proofs.Common.{◌≡◌, ◌+◌, ◌++◌, ◌∷◌, [], ℕ, List, map, take, ap, sym, ◌∙◌, arith}
-use Rattle.std.specs.Prelude.{option_copied}
+use Rattle.std.proofs.Common.{◌≡◌, ◌+◌, ◌++◌, ◌∷◌, [], take, ap, sym, ◌∙◌, arith}
 use Rattle.std.proofs.lemmas.Grind.{common_steps}
 use Rattle.fh_dispatch.specs.DueRuns.{due_with, dues_with}
-use Rattle.fh_dispatch.specs.Renewals.{Due, parts_of, told_from, receipt_after}
+use Rattle.fh_dispatch.specs.Renewals.{parts_of, told_from, receipt_after}
 use Rattle.fh_dispatch.proofs.Renewing.{receipts_after, receipts_after_push, told_from_push}
 use Rattle.fh_dispatch.proofs.renewals.told_from.Goals as goal
 

@@ -1,4 +1,4 @@
-use Rattle.std.proofs.Common.{◌≡◌, refl, sym, subst}
+use Rattle.std.proofs.Common.{refl, sym, subst}
 use Rattle.fh_dispatch.specs.declared.ask.WorkAsk.{WorkAsk}
 use Rattle.fh_dispatch.specs.Asks.{ask_of}
 use Rattle.fh_dispatch.specs.Begin.{begin_of}
