@@ -140,11 +140,10 @@ is-next functions rows ordered known from most few (Some run) is =
     let within : nat_le run.invocation (length functions) ≡ true =
     found-among (λ run. nat_le run.invocation (length functions))
     (λ run. nat_le from run.invocation && nat_le run.due most) (in_turn (length functions) rows) run
-    (within-in_turn functions rows ordered known (length functions)) (sym is) in
-    (
+    (within-in_turn functions rows ordered known (length functions)) (sym is) in (
       grind (arith, nat_tests, late),
       grind (arith, nat_tests, within),
       few,
       first-and-behind (λ run. nat_le run.due most) from (in_turn (length functions) rows) run
-      (ascends-in_turn functions rows ordered known (length functions)) (sym is),
+          (ascends-in_turn functions rows ordered known (length functions)) (sym is),
     )

@@ -26,7 +26,7 @@ module _ (f : ℕ) where
       let first = below 0 d (omega arith) (omega arith) in
       let other : (job.function == f) ≡ false = grind (arith, nat_tests, first) in
       let rest = without_first-at jobs place d (λ k e low high. below (suc k) e (omega arith) (omega (arith, high)))
-          (omega (arith, within)) own in
+      (omega (arith, within)) own in
       rw other (ap (λ more. job ∷ more) rest)
 
   -- none of its own among them

@@ -252,13 +252,13 @@ module _ (part : WorkPart) where
           let none_here : in_work f part ≡ 0 = subst (λ (g : ℕ). in_work g part ≡ 0) (eqb-true _ _ own) none in
           let within = runs_within f part in
           let more = ap (λ js. length (filter (job_passes is_run) js))
-              (jobs-ready part function run f ∙ jobs_of-with_own f (job_for function run) part.ready own)
-              ∙ ap length (filter-append (job_passes is_run) (jobs_of f part.ready) (job_for function run ∷ []))
-              ∙ length-append (filter (job_passes is_run) (jobs_of f part.ready)) (job_for function run ∷ []) in
+          (jobs-ready part function run f ∙ jobs_of-with_own f (job_for function run) part.ready own)
+          ∙ ap length (filter-append (job_passes is_run) (jobs_of f part.ready) (job_for function run ∷ []))
+          ∙ length-append (filter (job_passes is_run) (jobs_of f part.ready)) (job_for function run ∷ []) in
           omega (arith, none_here, within, more, running)
       by_test false other =
           let same = ap (λ js. length (filter (job_passes is_run) js))
-              (jobs-ready part function run f ∙ jobs_of-with_other f (job_for function run) part.ready other) in
+          (jobs-ready part function run f ∙ jobs_of-with_other f (job_for function run) part.ready other) in
           omega (arith, same, running, one)
 
   fetched_runs : (trigger : Trigger) (items : List Item) (f : ℕ)
@@ -275,25 +275,25 @@ module _ (part : WorkPart) where
           subst (λ (g : ℕ). runs_in g (by_acts part (adding trigger.function items)) ≤ runs_in g part)
           (eqb-true _ _ own)
           (let jobs = ap (λ js. length (filter (job_passes is_run) js)) (jobs-added trigger.function items part)
-              ∙ ap length (filter-append (job_passes is_run) (jobs_of trigger.function part.ready)
-              (map (message_job trigger.function) items))
-              ∙ length-append (filter (job_passes is_run) (jobs_of trigger.function part.ready))
-              (filter (job_passes is_run) (map (message_job trigger.function) items)) in
+          ∙ ap length (filter-append (job_passes is_run) (jobs_of trigger.function part.ready)
+          (map (message_job trigger.function) items))
+          ∙ length-append (filter (job_passes is_run) (jobs_of trigger.function part.ready))
+          (filter (job_passes is_run) (map (message_job trigger.function) items)) in
           let none = ap length (no_runs trigger.function items) in
           let run_rows = ap (running_passing is_run trigger.function) (running-added trigger.function items part) in
           omega (arith, jobs, none, run_rows))
       by_test false other =
           let same = ap (λ js. length (filter (job_passes is_run) js))
-              (jobs-added_other f trigger.function other items part) in
+          (jobs-added_other f trigger.function other items part) in
           omega (arith, same, running)
 
   one_ways : Ways StaysOne part
   one_ways = record {
     configures = λ name settings fits.
         no_more (Configure name settings) (sets part name settings) (done.Configured (number_for part name)) (λ f. passing-set is_run f
-            (number_for part name) (gets_other_trigger part name settings) part (after_set part name settings)
-            (ready-set (function_for part name settings) part (gets_other_trigger part name settings))
-            (running-set (function_for part name settings) part (gets_other_trigger part name settings)));
+        (number_for part name) (gets_other_trigger part name settings) part (after_set part name settings)
+        (ready-set (function_for part name settings) part (gets_other_trigger part name settings))
+        (running-set (function_for part name settings) part (gets_other_trigger part name settings)));
     readies = λ function run idle f one. run_made_ready function run idle f one;
     sessions = λ none f one. let all = session-empties part is_run f in omega (arith, all);
     fetches = λ name trigger found room items few none f one.
@@ -365,7 +365,7 @@ module _ (part : WorkPart) where
       → in_work f (by_acts part (AddJob (job_for function run) ∷ [])) ≤ in_work f part
   other_work function run f other =
       let jobs = ap length (jobs-ready part function run f
-          ∙ jobs_of-with_other f (job_for function run) part.ready other) in
+      ∙ jobs_of-with_other f (job_for function run) part.ready other) in
       let running = ap (λ rs. length (runs_of f rs)) (running-ready part (job_for function run)) in
       omega (arith, jobs, running)
 

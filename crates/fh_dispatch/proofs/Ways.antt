@@ -394,7 +394,7 @@ kept-renewed receipt m [] part =
 kept-renewed receipt m (due ∷ dues) part =
     let one = kept-one part due.run.invocation (receipt_for receipt due.run.job due.due_row) (due_next m due) in
     let rest = kept-renewed (receipt_after receipt due.due_row) m dues
-        (acted part (RenewRunning due.run.invocation (receipt_for receipt due.run.job due.due_row) (due_next m due))) in
+    (acted part (RenewRunning due.run.invocation (receipt_for receipt due.run.job due.due_row) (due_next m due))) in
     record {
       functions = rest.functions ∙ one.functions;
       next = rest.next ∙ one.next;

@@ -45,15 +45,9 @@ fn done(
     let queues = Queues::new(rt.alloc());
     let blobs = Blobs::new(rt.alloc());
     let timers = Timers::new(rt.alloc());
-    let planned = host.work.plan(
-        rt.alloc(),
-        ask,
-        &queues,
-        &blobs,
-        &host.leases,
-        &timers,
-        m,
-    );
+    let planned = host
+        .work
+        .plan(rt.alloc(), ask, &queues, &blobs, &host.leases, &timers, m);
     let Ok(plan) = planned else {
         return Err(Fail::from("refused"));
     };
@@ -140,7 +134,15 @@ fn a_run_begins_once_with_its_functions_lease(rt: HostRuntime) -> Result<(), Fai
     assert_eq!(rt; host.work.in_work(1), 2);
     assert_eq!(rt; host.work.lowest_running(), Some(1));
     let second = told(&rt, &mut host, &BEGIN, 1000)?;
-    assert!(rt; matches!(second, Reply::Blocked { holder: 1, until: 16000 }));
+    assert!(rt;
+        matches!(
+            second,
+            Reply::Blocked {
+                holder: 1,
+                until: 16000
+            }
+        )
+    );
     Ok(())
 }
 
@@ -163,7 +165,15 @@ fn a_lease_goes_on_from_half_its_time_on(rt: HostRuntime) -> Result<(), Fail> {
     let [part] = parts.as_slice() else {
         return Err(Fail::from("another number of parts"));
     };
-    assert!(rt; matches!(part, RenewalPart::Lease { invocation: 1, until: 22500 }));
+    assert!(rt;
+        matches!(
+            part,
+            RenewalPart::Lease {
+                invocation: 1,
+                until: 22500
+            }
+        )
+    );
     Ok(())
 }
 
@@ -191,7 +201,12 @@ fn an_end_tells_the_rule_that_outputs_break(rt: HostRuntime) -> Result<(), Fail>
         invocation: 1,
         outcome: &outcome,
     };
-    assert!(rt; matches!(told(&rt, &mut host, &ask, 0)?, Reply::JobFailed { broken: Some(2) }));
+    assert!(rt;
+        matches!(
+            told(&rt, &mut host, &ask, 0)?,
+            Reply::JobFailed { broken: Some(2) }
+        )
+    );
     Ok(())
 }
 
@@ -212,7 +227,12 @@ fn lost_job(work: &mut Work, function: u64) -> Result<(), Fail> {
 fn a_message_that_is_gone_is_dropped(rt: HostRuntime) -> Result<(), Fail> {
     let mut host = timer(&rt, 0)?;
     lost_job(&mut host.work, 1)?;
-    assert!(rt; matches!(told(&rt, &mut host, &BEGIN, 0)?, Reply::JobDropped { number: 3 }));
+    assert!(rt;
+        matches!(
+            told(&rt, &mut host, &BEGIN, 0)?,
+            Reply::JobDropped { number: 3 }
+        )
+    );
     assert!(rt; !host.work.is_busy(1));
     Ok(())
 }

@@ -11,7 +11,7 @@ pub returns-then-jobs-place-2 : goal.returns-then-jobs-place-2
 returns-then-jobs-place-2 c = (
   omega (arith, c.if-jobs-place.false),
   without_first-at c.args.function c.args.jobs.now c.place_before-place.result _ c.place_before-place.ensures.place.0
-  (omega (arith, c.if-jobs-place.false)) c.if-jobs-place-2.true,
+      (omega (arith, c.if-jobs-place.false)) c.if-jobs-place-2.true,
 )
 
 pub returns : goal.returns
