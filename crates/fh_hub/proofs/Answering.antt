@@ -1,5 +1,5 @@
 -- A recorded step replies what the stores did.
-use Rattle.std.proofs.Common.{◌≡◌, ◌⊎◌, inl, inr, ℕ, ◌+◌, cond, ◌∷◌, Option, Bool, true, false, List, [], Some, None, refl, sym, ◌∙◌, ap, subst}
+use Rattle.std.proofs.Common.{◌≡◌, inl, inr, ℕ, ◌+◌, cond, ◌∷◌, Option, Bool, true, false, List, [], Some, None, refl, sym, ◌∙◌, ap, subst}
 use Rattle.std.specs.Prelude.{◌==◌, ◌||◌, if◌then◌else◌, count_by, map, fold, ⊤}
 use Rattle.std.specs.List.{list_any}
 use Rattle.fh_event.specs.declared.command.Command.{Command}
@@ -41,8 +41,8 @@ use Rattle.fh_dispatch.specs.Queues.{batch_of}
 use Rattle.fh_dispatch.specs.Outcome.{fetched_job}
 use Rattle.fh_dispatch.specs.Laws as work_laws
 use Rattle.fh_dispatch.proofs.Lawful.{answers_the_ask as work_answers, fetches_as_told}
-use Rattle.fh_hub.specs.Asked.{queue_ask_in, blob_ask_in, work_ask, asks_in}
-use Rattle.fh_hub.specs.Stores.{Parts, Done, others_of, ready_by, asked_timers}
+use Rattle.fh_hub.specs.Asked.{blob_ask_in, work_ask, asks_in}
+use Rattle.fh_hub.specs.Stores.{Parts, others_of, ready_by, asked_timers}
 use Rattle.fh_hub.specs.Replies.{reply_of_leases, reply_of_blobs, reply_of_queues, reply_of_others, reply_of_note, reply_of_timers, reply_of_work, reply_of_stores, reply_of}
 use Rattle.fh_hub.specs.Signs.{lists, has_receipt, gives_by, bears}
 use Rattle.fh_hub.specs.World.{World, effective_moment}

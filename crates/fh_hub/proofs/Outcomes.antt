@@ -27,8 +27,6 @@ use Rattle.fh_timers.specs.Part.{TimerPart}
 use Rattle.fh_timers.specs.Outcome as timers
 use Rattle.fh_timers.specs.Edits as timer_edits
 use Rattle.fh_dispatch.specs.declared.done.WorkDone.{WorkDone}
-use Rattle.fh_dispatch.specs.declared.done.WorkDone.TheVariants as work_done
-use Rattle.fh_dispatch.specs.declared.act.Act.{Act as WorkAct}
 use Rattle.fh_dispatch.specs.Part.{WorkPart}
 use Rattle.fh_dispatch.specs.Outcome as work
 use Rattle.fh_dispatch.specs.Acts as work_acts

@@ -1,6 +1,6 @@
 -- The due times of timers rise and are scheduled, and one run of a function is ready.
-use Rattle.std.proofs.Common.{◌≡◌, ◌⊎◌, inl, inr, ℕ, ◌*◌, ◌<◌, ◌≤◌, Bool, true, false, List, [], ◌∷◌, ◌++◌, Option, Some, None, refl, sym, ◌∙◌, ap, subst, arith}
-use Rattle.std.specs.Prelude.{◌==◌, ◌&&◌, nat_lt, if◌then◌else◌, IfSome, option_map, unwrap_or, pos}
+use Rattle.std.proofs.Common.{◌≡◌, ◌⊎◌, inl, inr, ℕ, ◌<◌, ◌≤◌, Bool, true, false, List, [], ◌∷◌, ◌++◌, Option, Some, None, refl, sym, ◌∙◌, ap, subst, arith}
+use Rattle.std.specs.Prelude.{◌==◌, ◌&&◌, if◌then◌else◌, IfSome, option_map, unwrap_or, pos}
 use Rattle.std.specs.List.{All}
 use Rattle.std.proofs.lemmas.Bool.Decides.{nat_tests}
 use Rattle.std.proofs.lemmas.List.Elements.{All-nil, All-push}
@@ -20,7 +20,6 @@ use Rattle.fh_timers.specs.declared.done.TimerDone.TheVariants as done
 use Rattle.fh_timers.specs.declared.done.TimerRun.{TimerRun}
 use Rattle.fh_timers.specs.Outcome as timers
 use Rattle.fh_timers.specs.Part.{TimerPart, row_of}
-use Rattle.fh_timers.specs.Runs.{run_of}
 use Rattle.fh_timers.specs.Laws as laws
 use Rattle.fh_timers.specs.Laws.{next_of, schedule_given, due_time, IsDueAt, IsDueBetween, IsTimeGiven}
 use Rattle.fh_timers.proofs.Lawful as timer_laws
@@ -33,15 +32,15 @@ use Rattle.fh_dispatch.specs.Laws as work_specs
 use Rattle.fh_dispatch.specs.Laws.{number_of}
 use Rattle.fh_dispatch.specs.Part.{WorkPart, function_of}
 use Rattle.fh_dispatch.specs.InWork.{is_busy, runs_in}
-use Rattle.fh_dispatch.specs.Timers.{timer_by, timer_found, timer_of, asks_timers}
+use Rattle.fh_dispatch.specs.Timers.{timer_found, timer_of, asks_timers}
 use Rattle.fh_dispatch.proofs.Lawful as work_laws
 use Rattle.fh_hub.specs.Asked.{arming, ticking, timer_ask_in, work_ask}
 use Rattle.fh_hub.specs.Stores.{Parts, others_of, function_asked, run_made, ready_by, asked_timers}
-use Rattle.fh_hub.specs.Replies.{reply_of_timers, reply_of_work, reply_of_stores, reply_of}
+use Rattle.fh_hub.specs.Replies.{reply_of_timers, reply_of_work, reply_of_stores}
 use Rattle.fh_hub.specs.World.{World, empty, effective_moment}
 use Rattle.fh_hub.specs.Replay.{Entry, Event, trace, replay}
 use Rattle.fh_hub.specs.Timing.{timer_in, due_told, due_if, due_of, DueTimes, is_above, and_then, due_times, IsScheduled, IsDueInTime, RunsInTurn}
-use Rattle.fh_hub.proofs.Steps.{Made, is_configure, is_timed, asks_at, no_run, work_asked, work_timed, IsTimerAskOf, asked_of_timers, timers_asked_plainly, timer_ask_plain, IsKept, event, kept_by_all}
+use Rattle.fh_hub.proofs.Steps.{Made, is_configure, is_timed, asks_at, no_run, work_asked, work_timed, asked_of_timers, timers_asked_plainly, IsKept, event, kept_by_all}
 use Rattle.fh_hub.proofs.Answering.{timers_answered, work_answered}
 
 -- ---- what a timer's command asks

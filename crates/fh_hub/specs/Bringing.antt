@@ -1,5 +1,5 @@
 -- How many jobs of a function are in work, by the events of a trace.
-use Rattle.std.specs.Prelude.{◌≡◌, ⊤, ℕ, ◌≤◌, ◌==◌, Bool, false, List, Option, None, Some}
+use Rattle.std.specs.Prelude.{◌≡◌, ⊤, ℕ, ◌≤◌, ◌==◌, Bool, false, Option, None, Some}
 use Rattle.fh_event.specs.declared.command.Command.{Command}
 use Rattle.fh_event.specs.declared.command.Command.TheVariants.{Fetch, Arm, Tick}
 use Rattle.fh_dispatch.specs.declared.timer.Timer.{Timer}

@@ -1,5 +1,5 @@
 -- The due times of timers, by the events of a trace.
-use Rattle.std.specs.Prelude.{◌≡◌, ⊤, ℕ, ◌*◌, ◌≤◌, ◌==◌, nat_lt, Bool, true, ◌&&◌, if◌then◌else◌, List, fold, Option, Some, None, IfSome, pos}
+use Rattle.std.specs.Prelude.{◌≡◌, ℕ, ◌*◌, ◌≤◌, ◌==◌, nat_lt, Bool, true, ◌&&◌, if◌then◌else◌, List, fold, Option, Some, None, IfSome, pos}
 use Rattle.fh_event.specs.declared.command.Command.{Command}
 use Rattle.fh_event.specs.declared.command.Command.TheVariants.{Arm, Tick}
 use Rattle.fh_event.specs.declared.reply.Reply.{Reply}
