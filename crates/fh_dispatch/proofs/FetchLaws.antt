@@ -4,7 +4,6 @@ use Rattle.std.specs.Prelude.{if◌then◌else◌}
 use Rattle.fh_event.specs.declared.reply.Reply.TheVariants.{Fetched}
 use Rattle.fh_event.specs.Judging.{Judged, Refuses, Quiets, Makes}
 use Rattle.fh_queues.specs.declared.done.QueueDone.{QueueDone}
-use Rattle.fh_queues.specs.Asks as queues
 use Rattle.fh_queues.specs.Outcome as queue_outcome
 use Rattle.fh_queues.specs.Part.{QueuePart}
 use Rattle.fh_queues.specs.Tellings.{items_in}
@@ -12,9 +11,10 @@ use Rattle.fh_dispatch.specs.declared.done.WorkDone.{WorkDone}
 use Rattle.fh_dispatch.specs.declared.done.WorkDone.TheVariants as done
 use Rattle.fh_dispatch.specs.declared.trigger.Trigger.{Trigger}
 use Rattle.fh_dispatch.specs.Part.{WorkPart, Others}
-use Rattle.fh_dispatch.specs.Ready.{in_work}
+use Rattle.fh_dispatch.specs.InWork.{in_work}
 use Rattle.fh_dispatch.specs.Asks.{Fetch}
-use Rattle.fh_dispatch.specs.Queues.{trigger_of, is_full, batch_of, unless_full, fetching_queue, asks_queues}
+use Rattle.fh_dispatch.specs.Queues.{trigger_of, is_full, batch_of, unless_full, fetching_queue}
+use Rattle.fh_dispatch.specs.Asked.{asks_queues}
 use Rattle.fh_dispatch.specs.Outcome.{fetched_job, fetching_by, busy, fetching, acting, made_by, outcome}
 use Rattle.fh_dispatch.specs.Laws.{IsFetch, FetchesAsTold}
 
@@ -34,9 +34,9 @@ module _ (part : WorkPart) (others : Others) (name : List ℕ) (m : ℕ) (after 
 
   by_room : (trigger : Trigger) (full : Bool) → trigger_of name part.functions ≡ Some trigger
       → is_full part trigger ≡ full
-      → asks_queues part others (Fetch name) ≡ unless_full full trigger
+      → asks_queues part others (Fetch name) m ≡ unless_full full trigger
       → made_by part
-      (if full then busy (in_work trigger.function part.ready)
+      (if full then busy (in_work trigger.function part)
       else fetching_by trigger.function (queue_outcome.outcome others.queues (batch_of trigger) m)) ≡ Makes after answer
       → IsFetch part others name m answer
   by_room trigger true found room asks is = absurd (cc)
@@ -48,7 +48,7 @@ module _ (part : WorkPart) (others : Others) (name : List ℕ) (m : ℕ) (after 
   }
 
   by_trigger : (given : Option Trigger) → trigger_of name part.functions ≡ given
-      → asks_queues part others (Fetch name) ≡ fetching_queue part given
+      → asks_queues part others (Fetch name) m ≡ fetching_queue part given
       → made_by part (fetching part others given m) ≡ Makes after answer → IsFetch part others name m answer
   by_trigger None found asks is = absurd (cc)
   by_trigger (Some trigger) found asks is = by_room trigger (is_full part trigger) found refl asks is

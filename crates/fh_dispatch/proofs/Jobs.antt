@@ -71,18 +71,18 @@ module _ (f : ℕ) where
 
 -- ---- order
 
-ordered-cons : (job : ReadyJob) (jobs : List ReadyJob) → All (λ later. job.function ≤ later.function) jobs
+pub ordered-cons : (job : ReadyJob) (jobs : List ReadyJob) → All (λ later. job.function ≤ later.function) jobs
     → AreInOrder jobs → AreInOrder (job ∷ jobs)
 ordered-cons job jobs first up zero zero d le lt = omega arith
 ordered-cons job jobs first up zero (suc j) d le lt = first j d (omega (arith, lt))
 ordered-cons job jobs first up (suc i) zero d le lt = absurd (omega (arith, le))
 ordered-cons job jobs first up (suc i) (suc j) d le lt = up i j d (omega (arith, le)) (omega (arith, lt))
 
-ordered-first : (job : ReadyJob) (jobs : List ReadyJob) → AreInOrder (job ∷ jobs)
+pub ordered-first : (job : ReadyJob) (jobs : List ReadyJob) → AreInOrder (job ∷ jobs)
     → All (λ later. job.function ≤ later.function) jobs
 ordered-first job jobs up k d lt = up 0 (suc k) d (omega arith) (omega (arith, lt))
 
-ordered-rest : (job : ReadyJob) (jobs : List ReadyJob) → AreInOrder (job ∷ jobs) → AreInOrder jobs
+pub ordered-rest : (job : ReadyJob) (jobs : List ReadyJob) → AreInOrder (job ∷ jobs) → AreInOrder jobs
 ordered-rest job jobs up i j d le lt = up (suc i) (suc j) d (omega (arith, le)) (omega (arith, lt))
 
 pub ordered-filter : (keeps : ReadyJob → Bool) (jobs : List ReadyJob) → AreInOrder jobs → AreInOrder (filter keeps jobs)

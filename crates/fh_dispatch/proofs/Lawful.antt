@@ -1,16 +1,11 @@
 -- What every layer above may cite: one lemma for each law of the work.
-use Rattle.std.proofs.Common.{◌≡◌, ◌⊎◌, inl, inr, ℕ, ◌+◌, ◌<◌, ◌≤◌, Bool, true, false, List, [], ◌∷◌, ◌++◌, length, Option, Some, None, refl, sym, ap, ◌∙◌, subst, arith, length-append}
-use Rattle.std.specs.Prelude.{◌==◌, not, if◌then◌else◌, option_map, IfSome}
+use Rattle.std.proofs.Common.{◌≡◌, ◌⊎◌, inl, inr, ℕ, ◌+◌, ◌<◌, ◌≤◌, Bool, true, false, List, [], ◌∷◌, Option, Some, None, refl, sym, ap, ◌∙◌, subst, arith}
+use Rattle.std.specs.Prelude.{not, if◌then◌else◌, option_map, IfSome}
 use Rattle.std.specs.Str.{bytes_eq}
-use Rattle.std.proofs.lemmas.Bool.{eqb-true}
-use Rattle.std.proofs.lemmas.Bool.Decides.{nat_tests}
-use Rattle.fh_base.specs.declared.rule.Rule.{Rule}
 use Rattle.fh_event.specs.declared.settings.FunctionSettings.{FunctionSettings}
 use Rattle.fh_event.specs.declared.settings.FunctionSettings.TheVariants.{Queue, Blob, Timer}
 use Rattle.fh_ncrontab.specs.Schedule.{are_masks, with_masks}
 use Rattle.fh_timers.specs.declared.ask.TimerAsk.TheVariants.{Remove}
-use Rattle.fh_timers.specs.declared.done.TimerRun.{TimerRun}
-use Rattle.fh_event.specs.Judging.{Quiets, Makes, unless_refused}
 use Rattle.fh_queues.specs.Asks as queues
 use Rattle.fh_queues.specs.Part.{has_queue}
 use Rattle.fh_dispatch.specs.declared.function.Function.{Function}
@@ -19,22 +14,23 @@ use Rattle.fh_dispatch.specs.declared.act.Act.TheVariants.{AddJob, BeginSession}
 use Rattle.fh_dispatch.specs.declared.ready.ReadyJob.{ReadyJob}
 use Rattle.fh_dispatch.specs.declared.done.WorkDone.{WorkDone}
 use Rattle.fh_dispatch.specs.declared.done.WorkDone.TheVariants as done
-use Rattle.fh_dispatch.specs.Ready.{jobs_of, in_work, is_busy, with_job, without_jobs_of}
 use Rattle.fh_dispatch.specs.Settings.{is_as, same_trigger, has_other_trigger}
-use Rattle.fh_dispatch.specs.Asks.{Ask, Configure, Ready, Session, Fetch, Nothing}
+use Rattle.fh_dispatch.specs.Asks.{Ask, Configure, Ready, Session, Fetch, Begin, Finish, Renewals, Nothing}
 use Rattle.fh_dispatch.specs.Rules.{settings_rule}
-use Rattle.fh_dispatch.specs.Acts.{next_after, with_function, acted, by_acts}
+use Rattle.fh_dispatch.specs.Acts.{acted, by_acts}
 use Rattle.fh_dispatch.specs.Part.{WorkPart, no_work, function_of, number_or}
-use Rattle.fh_dispatch.specs.Outcome.{configured, outcome}
+use Rattle.fh_dispatch.specs.Outcome.{outcome}
 use Rattle.fh_dispatch.specs.Queues.{queue_of, made_where_missing}
-use Rattle.fh_dispatch.specs.Queues.{trigger_of, is_full, batch_of, unless_full, fetching_queue, asks_queues}
+use Rattle.fh_dispatch.specs.Queues.{trigger_of, is_full, batch_of, unless_full, fetching_queue}
+use Rattle.fh_dispatch.specs.Asked.{asks_queues}
 use Rattle.fh_dispatch.specs.declared.trigger.Trigger.{Trigger}
 use Rattle.fh_dispatch.specs.declared.timer.Timer.{Timer as FunctionTimer}
 use Rattle.fh_dispatch.specs.Timers.{timer_by, timer_found, timer_of, removing, configuring_timers, asks_timers}
 use Rattle.fh_dispatch.specs.Laws.{number_of, HasSchedule, IsWhole, OfEachAsk, StaysWhole, KeepsNumbers, GivesNumbersInTurn, IsAsConfigured, KeepsUnnamed, number_for, answers, AnswersTheAsk, MovesNumbers, is_configure, AsksAsItSays, AsksOnlyToRemove, HasTimer, KeepsTimers}
-use Rattle.fh_dispatch.proofs.Naming.{same_name, own_name, own_number, function_of-set}
+use Rattle.fh_dispatch.proofs.Naming.{same_name, own_name}
 use Rattle.fh_dispatch.proofs.Scheduled.{is_scheduled}
-use Rattle.fh_dispatch.proofs.Ways.{function_for, gets_other_trigger, job_for, Ways, by_ways, number_for-known, number_for-new, next_after-next, next_after-given, next_after-least, next_after-most, session-set, after_set, function-after_set, numbers_after, next-after_set, SameFunctions, same-ready, same-session, same-added, session-added, ways_by_functions}
+use Rattle.fh_dispatch.proofs.Ways.{function_for, gets_other_trigger, job_for, Ways, by_ways, number_for-known, number_for-new, next_after-next, next_after-given, next_after-least, next_after-most, session-set, invocations-set, after_set, function-after_set, numbers_after, next-after_set, SameFunctions, same-ready, same-session, same-added, session-added, invocations-added, KeepsCounters, kept-begun, kept-ended, kept-renewed, kept-counters, ways_by_functions}
+use Rattle.fh_dispatch.proofs.Asking.{begin_moves, finish_ends, renewals_renew}
 pub use Rattle.fh_dispatch.proofs.FetchLaws.{fetches_as_told}
 pub use Rattle.fh_dispatch.proofs.JobLaws.{jobs_as_asked, keeps_other_jobs, keeps_one_run, keeps_to_the_bound, brings_no_others}
 
@@ -50,22 +46,39 @@ module _ (part : WorkPart) where
     readies = λ function run. refl;
     sessions = refl;
     fetches = λ name trigger found room items few. refl;
+    begins = λ name high low job first acts so told answered. answered;
+    finishes = λ invocation outcome told answered ended. answered;
+    renews = λ receipt m dues parts. refl;
     nothing = refl;
   }
 
   abbrev MovesLittle : WorkPart → Type 0
-  MovesLittle after = (after.next_function ≤ part.next_function + 1) × (after.session ≤ part.session + 1)
+  MovesLittle after =
+      (after.next_function ≤ part.next_function + 1) × (after.next_invocation ≤ part.next_invocation + 1)
+      × (after.session ≤ part.session + 1)
 
-  same_little : (after : WorkPart) → SameFunctions part after → after.session ≤ part.session + 1 → MovesLittle after
-  same_little after same few = (omega (arith, same.next), few)
+  same_little : (after : WorkPart) → SameFunctions part after → after.next_invocation ≤ part.next_invocation + 1
+      → after.session ≤ part.session + 1 → MovesLittle after
+  same_little after same begun few = (omega (arith, same.next), begun, few)
+
+  kept_little : (after : WorkPart) → KeepsCounters part after → MovesLittle after
+  kept_little after kept = same_little after kept.same kept.invocations (omega (arith, kept.session))
 
   session-ready : (job : ReadyJob) → (by_acts part (AddJob job ∷ [])).session ≡ part.session
   unfolding acted
   session-ready job = refl
 
+  invocations-ready : (job : ReadyJob) → (by_acts part (AddJob job ∷ [])).next_invocation ≡ part.next_invocation
+  unfolding acted
+  invocations-ready job = refl
+
   session-begun : (by_acts part (BeginSession ∷ [])).session ≡ part.session + 1
   unfolding acted
   session-begun = refl
+
+  invocations-kept : (by_acts part (BeginSession ∷ [])).next_invocation ≡ part.next_invocation
+  unfolding acted
+  invocations-kept = refl
 
   little_ways : Ways (λ ask acts answer. MovesLittle (by_acts part acts)) part
   little_ways = record {
@@ -73,14 +86,21 @@ module _ (part : WorkPart) where
         let is = next-after_set part name settings in
         let most = next_after-most part.next_function (number_for part name) in
         let kept = session-set (function_for part name settings) part (gets_other_trigger part name settings) in
-        (omega (arith, is, most), omega (arith, kept));
+        let begun = invocations-set (function_for part name settings) part (gets_other_trigger part name settings) in
+        (omega (arith, is, most), omega (arith, begun), omega (arith, kept));
     readies = λ function run. same_little _ (same-ready part function run)
+        (omega (arith, invocations-ready (job_for function run)))
         (omega (arith, session-ready (job_for function run)));
-    sessions = same_little _ (same-session part) (omega (arith, session-begun));
+    sessions = same_little _ (same-session part) (omega (arith, invocations-kept)) (omega (arith, session-begun));
     fetches = λ name trigger found room items few.
         same_little _ (same-added trigger.function items part)
+        (omega (arith, invocations-added trigger.function items part))
         (omega (arith, session-added trigger.function items part));
-    nothing = (omega arith, omega arith);
+    begins = λ name high low job first acts so told answered.
+        kept_little _ (kept-begun part (number_for part name) job acts so);
+    finishes = λ invocation outcome told answered ended. kept_little _ (kept-ended part ended);
+    renews = λ receipt m dues parts. kept_little _ (kept-counters part _ (kept-renewed receipt m dues part));
+    nothing = (omega arith, omega arith, omega arith);
   }
 
 pub answers_the_ask : AnswersTheAsk
@@ -96,10 +116,13 @@ moves_numbers part others ask m after answer is =
 
 pub asks_as_it_says : AsksAsItSays
 unfolding asks_queues
-asks_as_it_says part others Nothing = refl
-asks_as_it_says part others (Ready function run) = refl
-asks_as_it_says part others Session = refl
-asks_as_it_says part others (Fetch name) = by_trigger (trigger_of name part.functions) refl
+asks_as_it_says part others Nothing m = refl
+asks_as_it_says part others (Ready function run) m = refl
+asks_as_it_says part others Session m = refl
+asks_as_it_says part others (Begin name high low) m = begin_moves part others name high low m
+asks_as_it_says part others (Finish invocation outcome) m = finish_ends part others invocation outcome m
+asks_as_it_says part others Renewals m = renewals_renew part others m
+asks_as_it_says part others (Fetch name) m = by_trigger (trigger_of name part.functions) refl
   where
     by_room : (trigger : Trigger) (full : Bool) → trigger_of name part.functions ≡ Some trigger
         → (unless_full full trigger ≡ None)
@@ -112,7 +135,7 @@ asks_as_it_says part others (Fetch name) = by_trigger (trigger_of name part.func
         ⊎ ((t : Trigger) × (trigger_of name part.functions ≡ Some t) × (fetching_queue part given ≡ Some (batch_of t)))
     by_trigger None found = inl refl
     by_trigger (Some trigger) found = by_room trigger (is_full part trigger) found
-asks_as_it_says part others (Configure name settings) =
+asks_as_it_says part others (Configure name settings) m =
     by_test (is_as settings (function_of name part.functions)) (queue_of (number_for part name) settings)
   where
     by_there : (queue : List ℕ) (there : Bool)
@@ -137,6 +160,9 @@ asks_only_to_remove part Nothing = inl refl
 asks_only_to_remove part (Ready function run) = inl refl
 asks_only_to_remove part Session = inl refl
 asks_only_to_remove part (Fetch name) = inl refl
+asks_only_to_remove part (Begin name high low) = inl refl
+asks_only_to_remove part (Finish invocation outcome) = inl refl
+asks_only_to_remove part Renewals = inl refl
 asks_only_to_remove part (Configure name settings) =
     by_test (has_other_trigger settings (function_of name part.functions))
   where
@@ -334,6 +360,10 @@ module _ (part : WorkPart) where
     readies = λ function run. (same-ready part function run).functions;
     sessions = (same-session part).functions;
     fetches = λ name trigger given room items few. (same-added trigger.function items part).functions;
+    begins = λ name high low job first acts so told answered.
+        (kept-begun part (number_for part name) job acts so).same.functions;
+    finishes = λ invocation outcome told answered ended. (kept-ended part ended).same.functions;
+    renews = λ receipt m dues parts. (kept-renewed receipt m dues part).functions;
     nothing = refl;
   }
     where

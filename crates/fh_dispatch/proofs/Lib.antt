@@ -6,9 +6,17 @@ pub mod Jobs
 pub mod Keys
 pub mod InTurn
 pub mod Indexes
+pub mod Dues
 pub mod Scheduled
 mod Ways
 mod JobLaws
 mod FetchLaws
 pub mod Lawful
 pub mod Comparing
+pub mod FirstJobs
+pub mod Ruled
+pub mod InWork
+pub mod Asking
+pub mod Refusing
+pub mod Beginning
+pub mod Renewing

@@ -1,5 +1,5 @@
 -- The ways in which an ask changes something, and what becomes of the functions in each.
-use Rattle.std.proofs.Common.{◌≡◌, ℕ, ◌+◌, ◌<◌, ◌≤◌, Bool, true, false, List, [], ◌∷◌, length, map, Option, Some, None, refl, sym, ap, ◌∙◌, subst, arith}
+use Rattle.std.proofs.Common.{◌≡◌, inl, inr, ℕ, ◌+◌, ◌<◌, ◌≤◌, Bool, true, false, List, [], ◌∷◌, length, map, Option, Some, None, refl, sym, ap, ◌∙◌, subst, arith}
 use Rattle.std.specs.Prelude.{◌==◌, if◌then◌else◌, option_map}
 use Rattle.std.specs.Str.{bytes_eq}
 use Rattle.std.proofs.lemmas.Bool.Decides.{nat_tests}
@@ -16,21 +16,31 @@ use Rattle.fh_queues.specs.Tellings.{items_in}
 use Rattle.fh_queues.proofs.Lawful.{takes_few}
 use Rattle.fh_dispatch.specs.declared.function.Function.{Function}
 use Rattle.fh_dispatch.specs.declared.act.Act.{Act}
-use Rattle.fh_dispatch.specs.declared.act.Act.TheVariants.{Set, AddJob, BeginSession}
+use Rattle.fh_dispatch.specs.declared.act.Act.TheVariants.{Set, AddJob, EndRunning, RenewRunning, BeginSession}
 use Rattle.fh_dispatch.specs.declared.ready.Job.TheVariants as jobs
 use Rattle.fh_dispatch.specs.declared.ready.ReadyJob.{ReadyJob}
 use Rattle.fh_dispatch.specs.declared.done.WorkDone.{WorkDone}
 use Rattle.fh_dispatch.specs.declared.done.WorkDone.TheVariants as done
 use Rattle.fh_dispatch.specs.declared.trigger.Trigger.{Trigger}
 use Rattle.fh_dispatch.specs.Part.{WorkPart, Others, function_of, number_or}
-use Rattle.fh_dispatch.specs.Ready.{in_work, without_jobs_of}
+use Rattle.fh_dispatch.specs.InWork.{in_work}
+use Rattle.fh_dispatch.specs.Ready.{first_job, without_jobs_of}
+use Rattle.fh_dispatch.specs.Invocations.{without_runs_of}
 use Rattle.fh_dispatch.specs.Settings.{is_as, has_other_trigger}
-use Rattle.fh_dispatch.specs.Asks.{Ask, Configure, Ready, Session, Fetch, Nothing}
+use Rattle.fh_event.specs.declared.outcome.Outcome.{Outcome as Finished}
+use Rattle.fh_event.specs.declared.reply.RenewalPart.{RenewalPart}
+use Rattle.fh_event.specs.declared.reply.Reply.{Reply}
+use Rattle.fh_dispatch.specs.Asks.{Ask, Configure, Ready, Session, Fetch, Begin, Finish, Renewals, Nothing}
+use Rattle.fh_dispatch.specs.Rulings.{Acting, Ruling, Refused, Unchanged, Changed, ruled}
+use Rattle.fh_dispatch.specs.Begin.{begin_of}
+use Rattle.fh_dispatch.specs.Finish.{finish_of}
+use Rattle.fh_dispatch.specs.Renewals.{Due, receipt_after, receipt_for, due_next, renewing_acts, renewals_of}
+use Rattle.fh_dispatch.proofs.Ruled.{IsBeginning, OfEffect, BeginsSo, EndsSo, RenewsSo, effected, begin_acts, finish_acts, renewal_acts}
 use Rattle.fh_dispatch.specs.Rules.{settings_rule}
 use Rattle.fh_dispatch.specs.Acts.{next_after, with_function, acted, by_acts}
 use Rattle.fh_dispatch.specs.Queues.{trigger_of, is_full, batch_of}
-use Rattle.fh_dispatch.specs.Outcome.{configured, dropping, configuring_as, Acting, message_job, adding, fetched_job, fetching_by, busy, fetching, acting, made_by, outcome}
-use Rattle.fh_dispatch.specs.Laws.{number_of, number_for, is_configure}
+use Rattle.fh_dispatch.specs.Outcome.{configured, dropping, configuring_as, message_job, adding, fetched_job, fetching_by, busy, fetching, acting, made_by, outcome}
+use Rattle.fh_dispatch.specs.Laws.{number_of, number_for, is_configure, answers}
 use Rattle.fh_dispatch.proofs.Naming.{function_of-set}
 
 abbrev pub function_for : WorkPart → List ℕ → FunctionSettings → Function
@@ -57,6 +67,18 @@ pub record Ways (P : Ask → List Act → WorkDone → Type 0) (part : WorkPart)
       (name : List ℕ) (trigger : Trigger) → trigger_of name part.functions ≡ Some trigger
       → is_full part trigger ≡ false → (items : List Item) → length items ≤ trigger.batch
       → P (Fetch name) (adding trigger.function items) (done.Told (replies.Fetched (map fetched_job items)))
+  pub begins :
+      (name : List ℕ) (high low : ℕ) (job : ReadyJob) → first_job (number_for part name) part.ready ≡ Some job
+      → (acts : List Act) → IsBeginning (number_for part name) job acts
+      → (told : Reply) → answers (Begin name high low) (done.Told told) ≡ true
+      → P (Begin name high low) acts (done.Told told)
+  pub finishes :
+      (invocation : ℕ) (outcome : Finished) (told : Reply)
+      → answers (Finish invocation outcome) (done.Told told) ≡ true → (ended : ℕ)
+      → P (Finish invocation outcome) (EndRunning ended ∷ []) (done.Told told)
+  pub renews :
+      (receipt m : ℕ) (dues : List Due) (parts : List RenewalPart)
+      → P Renewals (renewing_acts receipt m dues) (done.Told (replies.HoldsRenewed parts))
   pub nothing : P Nothing [] done.Nothing
 
 pub record Way (P : Ask → List Act → WorkDone → Type 0) (part : WorkPart) (ask : Ask) (after : WorkPart)
@@ -101,7 +123,7 @@ module _ (P : Ask → List Act → WorkDone → Type 0) (part : WorkPart) (ways 
   by_room : (name : List ℕ) (trigger : Trigger) → trigger_of name part.functions ≡ Some trigger
       → (full : Bool) → is_full part trigger ≡ full
       → made_by part
-      (if full then busy (in_work trigger.function part.ready)
+      (if full then busy (in_work trigger.function part)
       else fetching_by trigger.function (queue_outcome.outcome others.queues (batch_of trigger) m))
       ≡ Makes after_ask answer
       → Way P part (Fetch name) after_ask answer
@@ -114,6 +136,37 @@ module _ (P : Ask → List Act → WorkDone → Type 0) (part : WorkPart) (ways 
   by_trigger name None found is = absurd (cc)
   by_trigger name (Some trigger) found is = by_room name trigger found (is_full part trigger) refl is
 
+  begun : (name : List ℕ) (high low : ℕ) (ruling : Ruling) → OfEffect (BeginsSo part name) ruling
+      → made_by part (ruled others m ruling) ≡ Makes after_ask answer → Way P part (Begin name high low) after_ask answer
+  begun name high low (Refused rule) so is = absurd (cc)
+  begun name high low (Unchanged reply) so is = absurd (cc)
+  begun name high low (Changed effect) so is =
+      way (Begin name high low) _ _
+      (ways.begins name high low so.job so.first effect.acts so.acts effect.told (so.told high low))
+      (effected part others m effect after_ask answer is)
+
+  finished : (invocation : ℕ) (outcome : Finished) (ruling : Ruling) → OfEffect EndsSo ruling
+      → made_by part (ruled others m ruling) ≡ Makes after_ask answer
+      → Way P part (Finish invocation outcome) after_ask answer
+  finished invocation outcome (Refused rule) so is = absurd (cc)
+  finished invocation outcome (Unchanged reply) so is = absurd (cc)
+  finished invocation outcome (Changed effect) so is =
+      way (Finish invocation outcome) _ _
+      (subst (λ (acts : List Act). P (Finish invocation outcome) acts (done.Told effect.told)) (sym so.acts)
+      (ways.finishes invocation outcome effect.told (so.told invocation outcome) so.ended))
+      (effected part others m effect after_ask answer is)
+
+  renewed : (ruling : Ruling) → OfEffect RenewsSo ruling
+      → made_by part (ruled others m ruling) ≡ Makes after_ask answer → Way P part Renewals after_ask answer
+  renewed (Refused rule) so is = absurd (cc)
+  renewed (Unchanged reply) so is = absurd (cc)
+  renewed (Changed effect) so is =
+      way Renewals _ _
+      (subst (λ (acts : List Act). P Renewals acts (done.Told effect.told)) (sym so.acts)
+      (subst (λ (r : Reply). P Renewals (renewing_acts so.receipt so.moment so.dues) (done.Told r)) (sym so.told)
+      (ways.renews so.receipt so.moment so.dues so.parts)))
+      (effected part others m effect after_ask answer is)
+
   by_acting : (ask : Ask) → made_by part (acting part others ask m) ≡ Makes after_ask answer
       → Way P part ask after_ask answer
   unfolding acting
@@ -125,6 +178,12 @@ module _ (P : Ask → List Act → WorkDone → Type 0) (part : WorkPart) (ways 
   by_acting (Ready function run) is = way (Ready function run) _ _ (ways.readies function run) is
   by_acting Session is = way Session _ _ ways.sessions is
   by_acting (Fetch name) is = by_trigger name (trigger_of name part.functions) refl is
+  by_acting (Begin name high low) is =
+      begun name high low (begin_of part others name high low m) (begin_acts part others name high low m) is
+  by_acting (Finish invocation outcome) is =
+      finished invocation outcome (finish_of part others invocation outcome m)
+      (finish_acts part others invocation outcome m) is
+  by_acting Renewals is = renewed (renewals_of part others m) (renewal_acts part others m) is
   by_acting Nothing is = way Nothing _ _ ways.nothing is
 
   pub by_ways : (ask : Ask) → outcome part others ask m ≡ Makes after_ask answer → Way P part ask after_ask answer
@@ -198,6 +257,18 @@ module _ (function : Function) (part : WorkPart) where
   ready-set true = refl
   ready-set false = refl
 
+  pub invocations-set : (drops : Bool)
+      → (by_acts part (Set function ∷ dropping function.number drops)).next_invocation ≡ part.next_invocation
+  unfolding acted
+  invocations-set true = refl
+  invocations-set false = refl
+
+  pub running-set : (drops : Bool) → (by_acts part (Set function ∷ dropping function.number drops)).running
+      ≡ (if drops then without_runs_of function.number part.running else part.running)
+  unfolding acted
+  running-set true = refl
+  running-set false = refl
+
 module _ (part : WorkPart) where
   abbrev pub after_set : List ℕ → FunctionSettings → WorkPart
   after_set name settings = by_acts part (sets part name settings)
@@ -258,6 +329,17 @@ same-added function (item ∷ items) part =
     let rest = same-added function items (acted part (AddJob (message_job function item))) in
     record { functions = rest.functions ∙ one.functions; next = rest.next ∙ one.next }
 
+invocations-job : (part : WorkPart) (job : ReadyJob) → (acted part (AddJob job)).next_invocation ≡ part.next_invocation
+unfolding acted
+invocations-job part job = refl
+
+pub invocations-added : (function : ℕ) (items : List Item) (part : WorkPart)
+    → (by_acts part (adding function items)).next_invocation ≡ part.next_invocation
+invocations-added function [] part = refl
+invocations-added function (item ∷ items) part =
+    invocations-added function items (acted part (AddJob (message_job function item)))
+    ∙ invocations-job part (message_job function item)
+
 session-job : (part : WorkPart) (job : ReadyJob) → (acted part (AddJob job)).session ≡ part.session
 unfolding acted
 session-job part job = refl
@@ -268,6 +350,65 @@ session-added function [] part = refl
 session-added function (item ∷ items) part =
     session-added function items (acted part (AddJob (message_job function item)))
     ∙ session-job part (message_job function item)
+
+-- the acts of a job's begin and end, and of renewals, keep the functions and the sessions, and give one invocation's
+-- number at most
+pub record KeepsCounters (part after : WorkPart) : Type 0 where
+  pub same : SameFunctions part after
+  pub session : after.session ≡ part.session
+  pub invocations : after.next_invocation ≤ part.next_invocation + 1
+
+pub kept-begun : (part : WorkPart) (f : ℕ) (job : ReadyJob) (acts : List Act) → IsBeginning f job acts
+    → KeepsCounters part (by_acts part acts)
+unfolding acted
+kept-begun part f job acts (inl is) =
+    subst (λ (made : List Act). KeepsCounters part (by_acts part made)) (sym is)
+    (record { same = record { functions = refl; next = refl }; session = refl; invocations = omega arith })
+kept-begun part f job acts (inr so) =
+    subst (λ (made : List Act). KeepsCounters part (by_acts part made)) (sym so.acts_are)
+    (record { same = record { functions = refl; next = refl }; session = refl; invocations = omega arith })
+
+pub kept-ended : (part : WorkPart) (ended : ℕ) → KeepsCounters part (by_acts part (EndRunning ended ∷ []))
+unfolding acted
+kept-ended part ended =
+    record { same = record { functions = refl; next = refl }; session = refl; invocations = omega arith }
+
+-- the functions, counters and ready jobs are as they were
+pub record KeepsAll (part after : WorkPart) : Type 0 where
+  pub functions : after.functions ≡ part.functions
+  pub next : after.next_function ≡ part.next_function
+  pub session : after.session ≡ part.session
+  pub invocations : after.next_invocation ≡ part.next_invocation
+  pub ready : after.ready ≡ part.ready
+
+kept-one : (part : WorkPart) (invocation receipt due : ℕ)
+    → KeepsAll part (acted part (RenewRunning invocation receipt due))
+unfolding acted
+kept-one part invocation receipt due =
+    record { functions = refl; next = refl; session = refl; invocations = refl; ready = refl }
+
+pub kept-renewed : (receipt m : ℕ) (dues : List Due) (part : WorkPart)
+    → KeepsAll part (by_acts part (renewing_acts receipt m dues))
+kept-renewed receipt m [] part =
+    record { functions = refl; next = refl; session = refl; invocations = refl; ready = refl }
+kept-renewed receipt m (due ∷ dues) part =
+    let one = kept-one part due.run.invocation (receipt_for receipt due.run.job due.due_row) (due_next m due) in
+    let rest = kept-renewed (receipt_after receipt due.due_row) m dues
+    (acted part (RenewRunning due.run.invocation (receipt_for receipt due.run.job due.due_row) (due_next m due))) in
+    record {
+      functions = rest.functions ∙ one.functions;
+      next = rest.next ∙ one.next;
+      session = rest.session ∙ one.session;
+      invocations = rest.invocations ∙ one.invocations;
+      ready = rest.ready ∙ one.ready;
+    }
+
+pub kept-counters : (part after : WorkPart) → KeepsAll part after → KeepsCounters part after
+kept-counters part after all = record {
+  same = record { functions = all.functions; next = all.next };
+  session = all.session;
+  invocations = let is = all.invocations in omega (arith, is);
+}
 
 -- each ask but a configure keeps the functions, so that what holds of a configure and of equal functions holds of all
 module _ (Q : Ask → WorkPart → WorkDone → Type 0) (part : WorkPart)
@@ -281,5 +422,11 @@ module _ (Q : Ask → WorkPart → WorkDone → Type 0) (part : WorkPart)
     readies = λ function run. plain (Ready function run) _ _ refl (same-ready part function run);
     sessions = plain Session _ _ refl (same-session part);
     fetches = λ name trigger found room items few. plain (Fetch name) _ _ refl (same-added trigger.function items part);
+    begins = λ name high low job first acts so told answered.
+        plain (Begin name high low) _ _ refl (kept-begun part (number_for part name) job acts so).same;
+    finishes = λ invocation outcome told answered ended.
+        plain (Finish invocation outcome) _ _ refl (kept-ended part ended).same;
+    renews = λ receipt m dues parts.
+        plain Renewals _ _ refl (kept-counters part _ (kept-renewed receipt m dues part)).same;
     nothing = plain Nothing _ _ refl (record { functions = refl; next = refl });
   }

@@ -7,11 +7,12 @@ use Rattle.fh_dispatch.specs.Part.{WorkPart}
 use Rattle.fh_dispatch.specs.Acts.{by_acts}
 use Rattle.fh_dispatch.specs.Outcome.{Outcome}
 
--- what the work holds: its part of the world, and for how many more functions and ready jobs there is room
+-- what the work holds: its part of the world, and for how many more functions, ready jobs and invocations there is room
 pub record WorkState : Type 0 where
   pub part : WorkPart
   pub room : ℕ
   pub job_room : ℕ
+  pub run_room : ℕ
 
 -- the acts of a change, and its answer; a quiet one changes nothing
 pub record Change : Type 0 where
@@ -33,7 +34,8 @@ made state staged = (by_acts state.part staged.acts, staged.done)
 
 -- the counters are far from their ends
 abbrev pub HasNumbers : WorkPart → Type 0
-HasNumbers part = (part.next_function < 2 ^ 63) × (part.session < 2 ^ 63)
+HasNumbers part =
+    (part.next_function < 2 ^ 63) × (part.next_invocation < 2 ^ 63) × (part.session < 2 ^ 63)
 
 -- no change is staged: the work keeps nothing of one
 abbrev pub IsIdle : WorkState → Type 0
@@ -45,3 +47,4 @@ pub record IsStaged (state : WorkState) (staged : Staged) : Type 0 where
   pub few : length staged.acts < 2 ^ 63
   pub room : length staged.acts ≤ state.room
   pub job_room : length staged.acts ≤ state.job_room
+  pub run_room : length staged.acts ≤ state.run_room

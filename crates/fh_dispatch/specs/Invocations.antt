@@ -1,5 +1,5 @@
 -- The invocations that are running, in order of number.
-use Rattle.std.specs.Prelude.{ℕ, nat_le, ◌&&◌, List, [], ◌∷◌, ◌++◌, find, Option, Some, None}
+use Rattle.std.specs.Prelude.{ℕ, nat_le, ◌&&◌, List, [], ◌∷◌, ◌++◌, filter, find, Option, Some, None}
 use Rattle.std.specs.Ordering.{nat_cmp, ordering_then}
 use Rattle.std.specs.declared.cmp.Ordering.{Ordering}
 use Rattle.fh_rows.specs.Rows.{row_at, rows_at, with_change_at, without_row_at}
@@ -34,6 +34,10 @@ runs_of function running = rows_at (by_function function) running
 -- the first one from a number on that is due by a moment
 abbrev pub first_due : ℕ → ℕ → List Running → Option Running
 first_due from most running = find (λ run. nat_le from run.invocation && nat_le run.due most) running
+
+-- those that are due by a moment
+abbrev pub due_by : ℕ → List Running → List Running
+due_by most running = filter (λ run. nat_le run.due most) running
 
 -- the least number of one
 abbrev pub lowest : List Running → Option ℕ

@@ -4,7 +4,7 @@ use Rattle.std.specs.Str.{bytes_eq}
 use Rattle.fh_event.specs.declared.settings.FunctionSettings.{FunctionSettings}
 use Rattle.fh_event.specs.declared.settings.FunctionSettings.TheVariants.{Timer}
 use Rattle.fh_event.specs.declared.reply.FetchedJob.{FetchedJob}
-use Rattle.fh_event.specs.declared.reply.Reply.TheVariants.{SessionBegun, Fetched}
+use Rattle.fh_event.specs.declared.reply.Reply.TheVariants.{SessionBegun, Fetched, JobDropped, JobPoisoned, Begun, JobLost, JobDone, JobFailed, JobReleased, HoldsRenewed}
 use Rattle.fh_event.specs.Judging.{Makes}
 use Rattle.fh_ncrontab.specs.Schedule.{are_masks}
 use Rattle.fh_queues.specs.declared.done.QueueDone.{QueueDone}
@@ -18,13 +18,15 @@ use Rattle.fh_dispatch.specs.declared.done.WorkDone.TheVariants as done
 use Rattle.fh_dispatch.specs.declared.ready.Job.TheVariants.{Message, Timer as OfTimer}
 use Rattle.fh_dispatch.specs.declared.ready.ReadyJob.{ReadyJob}
 use Rattle.fh_dispatch.specs.declared.trigger.Trigger.{Trigger}
-use Rattle.fh_dispatch.specs.Ready.{jobs_of, in_work, is_busy, runs_in}
+use Rattle.fh_dispatch.specs.InWork.{in_work, is_busy, runs_in}
+use Rattle.fh_dispatch.specs.Ready.{jobs_of, without_first}
 use Rattle.fh_dispatch.specs.Part.{WorkPart, Others, function_of, number_or}
 use Rattle.fh_dispatch.specs.declared.timer.Timer.{Timer as FunctionTimer}
 use Rattle.fh_dispatch.specs.Settings.{same_settings, has_other_trigger}
-use Rattle.fh_dispatch.specs.Asks.{Ask, Configure, Ready, Session, Fetch, Nothing}
+use Rattle.fh_dispatch.specs.Asks.{Ask, Configure, Ready, Session, Fetch, Begin, Finish, Renewals, Nothing}
 use Rattle.fh_dispatch.specs.Outcome.{configured, fetched_job, outcome}
-use Rattle.fh_dispatch.specs.Queues.{trigger_of, batch_of, asks_queues}
+use Rattle.fh_dispatch.specs.Queues.{trigger_of, batch_of}
+use Rattle.fh_dispatch.specs.Asked.{asks_queues}
 use Rattle.fh_dispatch.specs.Timers.{timer_of, asks_timers}
 
 -- the number of the function of this name
@@ -107,7 +109,7 @@ jobs_told function answer =
 
 -- a run that is made ready is the last of its function's jobs, and messages that are fetched are the last ones, as they
 -- are told; a function that is configured keeps its jobs, and has none where it gets another trigger; a session begins
--- without jobs
+-- without jobs; a job that begins is the first of its function's, and is ready no more
 abbrev pub HasJobsAsAsked : WorkPart → ℕ → Ask → WorkPart → WorkDone → Type 0
 HasJobsAsAsked part m (Configure name settings) after answer =
     jobs_of (number_for part name) after.ready
@@ -119,6 +121,10 @@ HasJobsAsAsked part m Session after answer = (after.ready ≡ []) × (after.sess
 HasJobsAsAsked part m (Fetch name) after answer =
     jobs_of (number_for part name) after.ready
     ≡ jobs_of (number_for part name) part.ready ++ jobs_told (number_for part name) answer
+HasJobsAsAsked part m (Begin name high low) after answer =
+    after.ready ≡ without_first (number_for part name) part.ready
+HasJobsAsAsked part m (Finish invocation outcome) after answer = after.ready ≡ part.ready
+HasJobsAsAsked part m Renewals after answer = after.ready ≡ part.ready
 HasJobsAsAsked part m Nothing after answer = after ≡ part
 
 -- the ask is about the function of this number; a session is about all
@@ -127,7 +133,8 @@ is_about part f (Configure name settings) = number_for part name == f
 is_about part f (Ready function run) = function == f
 is_about part f Session = true
 is_about part f (Fetch name) = number_for part name == f
-is_about part f Nothing = false
+is_about part f (Begin name high low) = number_for part name == f
+is_about part f ask = false
 
 -- the jobs of a function that the ask isn't about stay as they are
 abbrev pub KeepsOtherJobs : WorkPart → ℕ → Ask → WorkPart → WorkDone → Type 0
@@ -136,15 +143,15 @@ KeepsOtherJobs part m ask after answer =
 
 -- a run is made ready where no job of the function is in work
 abbrev pub FindsNoJob : WorkPart → Ask → Type 0
-FindsNoJob part (Ready function run) = is_busy function part.ready ≡ false
+FindsNoJob part (Ready function run) = is_busy function part ≡ false
 FindsNoJob part ask = ⊤
 
 -- then a function that had one run in work at most has no more
 abbrev pub KeepsOneRun : WorkPart → ℕ → Ask → WorkPart → WorkDone → Type 0
 KeepsOneRun part m ask after answer =
-    FindsNoJob part ask → (f : ℕ) → runs_in f part.ready ≤ 1 → runs_in f after.ready ≤ 1
+    FindsNoJob part ask → (f : ℕ) → runs_in f part ≤ 1 → runs_in f after ≤ 1
 
--- the ask may bring the function of this number jobs
+-- the ask may bring the function of this number jobs; what begins was ready before
 abbrev pub brings_jobs : WorkPart → ℕ → Ask → Bool
 brings_jobs part f (Ready function run) = function == f
 brings_jobs part f (Fetch name) = number_for part name == f
@@ -153,7 +160,7 @@ brings_jobs part f ask = false
 -- a function that works on messages has no more of them in work than a batch beside its threshold
 abbrev pub IsWithin : WorkPart → Option Trigger → Type 0
 IsWithin after None = ⊥
-IsWithin after (Some trigger) = in_work trigger.function after.ready ≤ trigger.batch + trigger.threshold
+IsWithin after (Some trigger) = in_work trigger.function after ≤ trigger.batch + trigger.threshold
 
 -- so it is behind each fetch
 abbrev pub KeepsToTheBound : WorkPart → ℕ → Ask → WorkPart → WorkDone → Type 0
@@ -163,7 +170,7 @@ KeepsToTheBound part m ask after answer = ⊤
 -- and a function to which the ask brings no jobs has no more of them than before
 abbrev pub BringsNoOthers : WorkPart → ℕ → Ask → WorkPart → WorkDone → Type 0
 BringsNoOthers part m ask after answer =
-    (f : ℕ) → brings_jobs part f ask ≡ false → in_work f after.ready ≤ in_work f part.ready
+    (f : ℕ) → brings_jobs part f ask ≡ false → in_work f after ≤ in_work f part
 
 -- the answer is one to this ask
 abbrev pub answers : Ask → WorkDone → Bool
@@ -171,6 +178,15 @@ answers (Configure name settings) (done.Configured number) = true
 answers (Ready function run) done.Ready = true
 answers Session (done.Told (SessionBegun session)) = true
 answers (Fetch name) (done.Told (Fetched jobs)) = true
+answers (Begin name high low) (done.Told (JobDropped number)) = true
+answers (Begin name high low) (done.Told (JobPoisoned copy broken)) = true
+answers (Begin name high low) (done.Told (Begun begun)) = true
+answers (Finish invocation outcome) (done.Told JobLost) = true
+answers (Finish invocation outcome) (done.Told JobDone) = true
+answers (Finish invocation outcome) (done.Told (JobFailed broken)) = true
+answers (Finish invocation outcome) (done.Told (JobPoisoned copy broken)) = true
+answers (Finish invocation outcome) (done.Told (JobReleased visible_at broken)) = true
+answers Renewals (done.Told (HoldsRenewed parts)) = true
 answers Nothing done.Nothing = true
 answers ask answer = false
 
@@ -180,28 +196,52 @@ AnswersTheAsk =
     (part : WorkPart) (others : Others) (ask : Ask) (m : ℕ) (after : WorkPart) (answer : WorkDone)
     → outcome part others ask m ≡ Makes after answer → answers ask answer ≡ true
 
--- one number is given at most, and one session begins, whatever the part before
+-- one number of a function and one of an invocation are given at most, and one session begins, whatever the part before
 abbrev pub MovesNumbers : Type 0
 MovesNumbers =
     (part : WorkPart) (others : Others) (ask : Ask) (m : ℕ) (after : WorkPart) (answer : WorkDone)
     → outcome part others ask m ≡ Makes after answer
-    → (after.next_function ≤ part.next_function + 1) × (after.session ≤ part.session + 1)
+    → (after.next_function ≤ part.next_function + 1) × (after.next_invocation ≤ part.next_invocation + 1)
+    × (after.session ≤ part.session + 1)
 
 abbrev pub is_configure : Ask → Bool
 is_configure (Configure name settings) = true
 is_configure ask = false
 
--- where a function is configured, the queues are asked to make a queue at most, and where it fetches, for its batch
+-- a job that begins is moved or asks for nothing, and at an end the message is moved, released or removed
+abbrev pub MayMove : Option queues.Ask → Type 0
+MayMove None = ⊤
+MayMove (Some (queues.Poison message queue)) = ⊤
+MayMove (Some ask) = ⊥
+
+abbrev pub MayEnd : ℕ → Option queues.Ask → Type 0
+MayEnd invocation None = ⊤
+MayEnd invocation (Some (queues.Poison message queue)) = ⊤
+MayEnd invocation (Some (queues.Release message delay)) = ⊤
+MayEnd invocation (Some (queues.Complete ended message outputs)) = ⊤
+MayEnd invocation (Some ask) = ⊥
+
+abbrev pub MayRenew : Option queues.Ask → Type 0
+MayRenew None = ⊤
+MayRenew (Some (queues.Renew messages hold)) = ⊤
+MayRenew (Some ask) = ⊥
+
+-- where a function is configured, the queues are asked to make a queue at most, where it fetches, for its batch, and
+-- what a job asks is as above
 abbrev pub AsksForQueues : WorkPart → Ask → Option queues.Ask → Type 0
 AsksForQueues part (Configure name settings) asked =
     (asked ≡ None) ⊎ ((queue : List ℕ) × (asked ≡ Some (queues.Make queue)))
 AsksForQueues part (Fetch name) asked =
     (asked ≡ None)
     ⊎ ((trigger : Trigger) × (trigger_of name part.functions ≡ Some trigger) × (asked ≡ Some (batch_of trigger)))
+AsksForQueues part (Begin name high low) asked = MayMove asked
+AsksForQueues part (Finish invocation outcome) asked = MayEnd invocation asked
+AsksForQueues part Renewals asked = MayRenew asked
 AsksForQueues part ask asked = asked ≡ None
 
 abbrev pub AsksAsItSays : Type 0
-AsksAsItSays = (part : WorkPart) (others : Others) (ask : Ask) → AsksForQueues part ask (asks_queues part others ask)
+AsksAsItSays =
+    (part : WorkPart) (others : Others) (ask : Ask) (m : ℕ) → AsksForQueues part ask (asks_queues part others ask m)
 
 -- the timers are asked to remove a row or nothing, and only where a function is configured
 abbrev pub AsksOnlyToRemove : Type 0
@@ -232,7 +272,7 @@ ComparesSettings = (one other : FunctionSettings) → (same_settings one other �
 pub record IsFetch (part : WorkPart) (others : Others) (name : List ℕ) (m : ℕ) (answer : WorkDone) : Type 0 where
   pub trigger : Trigger
   pub found : trigger_of name part.functions ≡ Some trigger
-  pub asks : asks_queues part others (Fetch name) ≡ Some (batch_of trigger)
+  pub asks : asks_queues part others (Fetch name) m ≡ Some (batch_of trigger)
   pub told :
       (taken : QueuePart) (given : QueueDone) → queue_outcome.outcome others.queues (batch_of trigger) m
       ≡ Makes taken given

@@ -13,3 +13,15 @@ pub mod Timers
 pub mod Edits
 pub mod Faults
 pub mod Laws
+pub mod InWork
+pub mod Terms
+pub mod Holds
+pub mod Rulings
+pub mod Begin
+pub mod Outputs
+pub mod Finish
+pub mod Renewals
+pub mod DueRuns
+pub mod Asked
+pub mod Effects
+pub mod Stores

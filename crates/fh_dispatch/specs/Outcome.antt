@@ -19,19 +19,19 @@ use Rattle.fh_dispatch.specs.declared.done.WorkDone.TheVariants as done
 use Rattle.fh_dispatch.specs.declared.act.Act.{Act}
 use Rattle.fh_dispatch.specs.declared.act.Act.TheVariants.{Set, AddJob, DropJobs, BeginSession}
 use Rattle.fh_dispatch.specs.Part.{WorkPart, Others, function_of, number_or}
-use Rattle.fh_dispatch.specs.Ready.{in_work}
+use Rattle.fh_dispatch.specs.InWork.{in_work}
 use Rattle.fh_dispatch.specs.Settings.{is_as, has_other_trigger}
-use Rattle.fh_dispatch.specs.Asks.{Ask, Configure, Ready, Session, Fetch, Nothing}
+use Rattle.fh_dispatch.specs.Asks.{Ask, Configure, Ready, Session, Fetch, Begin, Finish, Renewals, Nothing}
 use Rattle.fh_dispatch.specs.Rules.{settings_rule}
 use Rattle.fh_dispatch.specs.Acts.{by_acts}
+use Rattle.fh_dispatch.specs.Rulings.{Acting, ruled}
+use Rattle.fh_dispatch.specs.Begin.{begin_of}
+use Rattle.fh_dispatch.specs.Finish.{finish_of}
+use Rattle.fh_dispatch.specs.Renewals.{renewals_of}
 use Rattle.fh_dispatch.specs.Queues.{trigger_of, is_full, batch_of}
 
 abbrev pub configured : ℕ → List ℕ → FunctionSettings → Function
 configured number name settings = record { number = number; name = name; settings = settings }
-
--- the acts of an ask, and its answer
-abbrev pub Acting : Type 0
-Acting = Judged (List Act) WorkDone
 
 -- where the trigger is another, the jobs go that the old one made ready
 abbrev pub dropping : ℕ → Bool → List Act
@@ -79,7 +79,7 @@ busy in_work = Quiets (done.Told (replies.Busy in_work))
 abbrev pub fetching : WorkPart → Others → Option Trigger → ℕ → Acting
 fetching part others None m = Refuses NoSuchFunction
 fetching part others (Some trigger) m =
-    if is_full part trigger then busy (in_work trigger.function part.ready)
+    if is_full part trigger then busy (in_work trigger.function part)
     else fetching_by trigger.function (queue_outcome.outcome others.queues (batch_of trigger) m)
 
 -- a session that begins drops what was ready before it
@@ -92,6 +92,9 @@ acting part others (Ready function run) m =
     Makes (AddJob (record { function = function; job = Timer run }) ∷ []) done.Ready
 acting part others Session m = beginning (part.session + 1)
 acting part others (Fetch name) m = fetching part others (trigger_of name part.functions) m
+acting part others (Begin name high low) m = ruled others m (begin_of part others name high low m)
+acting part others (Finish invocation outcome) m = ruled others m (finish_of part others invocation outcome m)
+acting part others Renewals m = ruled others m (renewals_of part others m)
 acting part others Nothing m = Makes [] done.Nothing
 
 -- the part after an ask, and what is answered

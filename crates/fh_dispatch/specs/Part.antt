@@ -5,19 +5,26 @@ use Rattle.std.specs.Ordering.{nat_cmp}
 use Rattle.std.specs.declared.cmp.Ordering.{Ordering}
 use Rattle.fh_rows.specs.Rows.{row_at}
 use Rattle.fh_queues.specs.Part.{QueuePart}
+use Rattle.fh_blobs.specs.Part.{BlobPart}
+use Rattle.fh_leases.specs.Part.{LeasePart}
+use Rattle.fh_timers.specs.Part.{TimerPart}
 use Rattle.fh_dispatch.specs.declared.function.Function.{Function}
 use Rattle.fh_dispatch.specs.declared.ready.ReadyJob.{ReadyJob}
+use Rattle.fh_dispatch.specs.declared.running.Running.{Running}
 
--- the functions in order of their names, the jobs that are ready, the number that the next new function gets, and how
--- many sessions have begun
+-- the functions in order of their names, the jobs that are ready, the invocations that are running, the numbers that
+-- the next new function and the next invocation get, and how many sessions have begun
 pub record WorkPart : Type 0 where
   pub functions : List Function
   pub ready : List ReadyJob
+  pub running : List Running
   pub next_function : ℕ
+  pub next_invocation : ℕ
   pub session : ℕ
 
 abbrev pub no_work : WorkPart
-no_work = record { functions = []; ready = []; next_function = 1; session = 0 }
+no_work =
+    record { functions = []; ready = []; running = []; next_function = 1; next_invocation = 1; session = 0 }
 
 -- how a function stands to a name: names are in order of their bytes
 abbrev pub by_name : List ℕ → Function → Ordering
@@ -35,3 +42,10 @@ number_or next (Some function) = function.number
 -- the parts of the other stores at which the work looks
 pub record Others : Type 0 where
   pub queues : QueuePart
+  pub blobs : BlobPart
+  pub leases : LeasePart
+  pub timers : TimerPart
+
+abbrev pub others_with : QueuePart → BlobPart → LeasePart → TimerPart → Others
+others_with queues blobs leases timers =
+    record { queues = queues; blobs = blobs; leases = leases; timers = timers }

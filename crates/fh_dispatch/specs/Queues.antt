@@ -8,10 +8,9 @@ use Rattle.fh_queues.specs.Asks as queues
 use Rattle.fh_queues.specs.Part.{QueuePart, has_queue}
 use Rattle.fh_dispatch.specs.declared.function.Function.{Function}
 use Rattle.fh_dispatch.specs.declared.trigger.Trigger.{Trigger}
-use Rattle.fh_dispatch.specs.Part.{WorkPart, Others, function_of, number_or}
-use Rattle.fh_dispatch.specs.Ready.{in_work}
+use Rattle.fh_dispatch.specs.Part.{WorkPart, function_of, number_or}
+use Rattle.fh_dispatch.specs.InWork.{in_work}
 use Rattle.fh_dispatch.specs.Settings.{is_as}
-use Rattle.fh_dispatch.specs.Asks.{Ask, Configure, Fetch}
 
 -- the queue of a blob function's own, by the function's number
 abbrev pub inner_queue : ℕ → List ℕ
@@ -60,7 +59,7 @@ trigger_of name functions = trigger_found (function_of name functions)
 
 -- too many jobs of the function are in work for it to fetch more
 abbrev pub is_full : WorkPart → Trigger → Bool
-is_full part trigger = nat_lt trigger.threshold (in_work trigger.function part.ready)
+is_full part trigger = nat_lt trigger.threshold (in_work trigger.function part)
 
 -- the next messages of the queue, held for ten minutes
 abbrev pub batch_of : Trigger → queues.Ask
@@ -73,9 +72,3 @@ unless_full full trigger = if full then None else Some (batch_of trigger)
 abbrev pub fetching_queue : WorkPart → Option Trigger → Option queues.Ask
 fetching_queue part None = None
 fetching_queue part (Some trigger) = unless_full (is_full part trigger) trigger
-
--- what an ask that is accepted asks of the queues, if it asks something of them
-unfoldable pub asks_queues : WorkPart → Others → Ask → Option queues.Ask
-asks_queues part others (Configure name settings) = configuring_queues part others.queues name settings
-asks_queues part others (Fetch name) = fetching_queue part (trigger_of name part.functions)
-asks_queues part others ask = None

@@ -1,5 +1,5 @@
 -- The jobs that are ready: in order of function number, and those of a function in the order in which they came.
-use Rattle.std.specs.Prelude.{ℕ, ◌==◌, nat_le, nat_lt, Bool, true, false, not, List, ◌∷◌, ◌++◌, length, filter}
+use Rattle.std.specs.Prelude.{ℕ, ◌==◌, nat_le, nat_lt, Bool, true, false, not, if◌then◌else◌, List, [], ◌∷◌, ◌++◌, filter, find, Option}
 use Rattle.std.specs.List.Sorted.{IsNonDecreasingBy}
 use Rattle.fh_dispatch.specs.declared.ready.Job.{Job}
 use Rattle.fh_dispatch.specs.declared.ready.Job.TheVariants.{Message, Timer}
@@ -13,28 +13,26 @@ AreInOrder jobs = IsNonDecreasingBy (λ job. job.function) jobs
 abbrev pub jobs_of : ℕ → List ReadyJob → List ReadyJob
 jobs_of function ready = filter (λ job. job.function == function) ready
 
--- how many jobs of the function are in work
-abbrev pub in_work : ℕ → List ReadyJob → ℕ
-in_work function ready = length (jobs_of function ready)
-
--- a job of the function is in work
-abbrev pub is_busy : ℕ → List ReadyJob → Bool
-is_busy function ready = not (in_work function ready == 0)
+-- the first job of the function
+abbrev pub first_job : ℕ → List ReadyJob → Option ReadyJob
+first_job function ready = find (λ job. job.function == function) ready
 
 -- a run of a timer, and not a message
 abbrev pub is_run : Job → Bool
 is_run (Message number receipt) = false
 is_run (Timer run) = true
 
--- how many runs of the function's timer are in work
-abbrev pub runs_in : ℕ → List ReadyJob → ℕ
-runs_in function ready = length (filter (λ job. is_run job.job) (jobs_of function ready))
-
 -- the job behind those that its function has
 abbrev pub with_job : ReadyJob → List ReadyJob → List ReadyJob
 with_job job ready =
     filter (λ other. nat_le other.function job.function) ready
     ++ job ∷ filter (λ other. nat_lt job.function other.function) ready
+
+-- the first job of the function is gone
+abbrev pub without_first : ℕ → List ReadyJob → List ReadyJob
+without_first function [] = []
+without_first function (job ∷ jobs) =
+    if job.function == function then jobs else job ∷ without_first function jobs
 
 -- no job of the function
 abbrev pub without_jobs_of : ℕ → List ReadyJob → List ReadyJob

@@ -1,5 +1,5 @@
 -- How running invocations are found: by function and number, by number alone, and by when they are due.
-use Rattle.std.specs.Prelude.{◌≡◌, ℕ, zero, suc, ◌+◌, ◌-◌, ◌<◌, ◌≤◌, ◌==◌, nat_le, Bool, true, false, if◌then◌else◌, List, [], ◌∷◌, ◌++◌, length, slice_index, Option, Some, None, refl}
+use Rattle.std.specs.Prelude.{◌≡◌, ℕ, zero, suc, ◌+◌, ◌-◌, ◌<◌, ◌≤◌, ◌==◌, ◌^◌, nat_le, ◌&&◌, Bool, true, false, if◌then◌else◌, List, [], ◌∷◌, ◌++◌, length, filter, slice_index, Option, Some, None, refl}
 use Rattle.std.proofs.Common.{sym, ap, ◌∙◌}
 use Rattle.std.specs.List.{list_all, slice_get}
 use Rattle.std.specs.Cmp.{IsTotalOrder, then_total, on_total, nat_cmp_total}
@@ -107,6 +107,17 @@ IsFirstKey dues from most None = (i : ℕ) → from ≤ i + 1 → i < length due
 IsFirstKey dues from most (Some number) =
     (from ≤ number) × (1 ≤ number) × (number ≤ length dues) × (slice_index dues (number - 1) ≤ most)
     × ((i : ℕ) → from ≤ i + 1 → i + 1 < number → most < slice_index dues i)
+
+-- those from a number on that are due by a moment
+abbrev pub due_from : ℕ → ℕ → List Running → List Running
+due_from from most running = filter (λ run. nat_le from run.invocation && nat_le run.due most) running
+
+-- of those that are due, the first one, of a number that was given, stands before all of greater numbers
+abbrev pub IsNextDue : ℕ → ℕ → ℕ → List Running → Option Running → Type 0
+IsNextDue from most next running None = due_from from most running ≡ []
+IsNextDue from most next running (Some run) =
+    (from ≤ run.invocation) × (run.invocation < next) × (next < 2 ^ 64)
+    × (due_from from most running ≡ run ∷ due_from (run.invocation + 1) most running)
 
 -- the key of this number is another one
 abbrev pub HasKey : ℕ → ℕ → List ℕ → List ℕ → Type 0

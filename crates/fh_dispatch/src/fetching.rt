@@ -4,6 +4,7 @@ ghost use Rattle.fh_event.specs.declared.reply.Reply.TheVariants as replies;
 ghost use Rattle.fh_queues.specs.Edits as queue_edits;
 ghost use Rattle.fh_dispatch.specs.declared.act.Act.TheVariants.{BeginSession};
 ghost use Rattle.fh_dispatch.specs.declared.done.WorkDone.TheVariants.{Told};
+ghost use Rattle.fh_dispatch.specs.Part.{Others};
 ghost use Rattle.fh_dispatch.specs.Outcome.{adding, fetched_job, fetching, beginning, made_by};
 ghost use Rattle.fh_dispatch.specs.Queues.{trigger_of, fetching_queue};
 ghost use Rattle.fh_dispatch.specs.Edits.{HasNumbers, planned};
@@ -12,14 +13,12 @@ ghost use Rattle.fh_dispatch.specs.Faults.{IsPlanOf, IsQueuesPlanOf};
 use crate::act::Act;
 use crate::ask::Asking;
 use crate::planning::alone;
+use crate::ruling::HOLD;
 use crate::{Job, ReadyJob, Work, WorkChange, WorkDone, WorkPlan};
 use fh_base::{Moment, NoMemory, Rule};
 use fh_event::{FetchedJob, FetchedJobs, Item, PlanFault, Reply};
 use fh_queues::{QueueAsk, Queues};
 use std::alloc::Global;
-
-/// For how long a message that is fetched is held, in seconds.
-pub(crate) const FETCH_HOLD: u64 = 600;
 
 impl Work {
     /// The messages that a function fetches, and the jobs that they become.
@@ -32,8 +31,8 @@ impl Work {
     ) -> Result<WorkPlan, PlanFault>
         requires idle { queue_edits.IsIdle queues.now }
         requires numbers { queue_edits.HasNumbers queues.now.part }
-        ensures work { IsPlanOf self.now.part (made_by self.now.part
-            (fetching self.now.part (record { queues = queues.now.part })
+        ensures work { (others : Others) → others.queues ≡ queues.now.part
+            → IsPlanOf self.now.part (made_by self.now.part (fetching self.now.part others
             (trigger_of name.now self.now.part.functions) m)) result }
         ensures queues { IfOk result (λ plan. IsQueuesPlanOf queues.now.part
             (fetching_queue self.now.part (trigger_of name.now self.now.part.functions)) m plan.queues) }
@@ -52,7 +51,7 @@ impl Work {
             queues: QueueAsk::Take {
                 queue: trigger.queue,
                 count: trigger.batch,
-                hold: FETCH_HOLD,
+                hold: HOLD,
             },
         };
         let taken = queues.plan(alloc, &asking.queues, m)?;
@@ -90,7 +89,7 @@ impl Work {
 }
 
 // Nothing changes, and that is told.
-fn quiet(alloc: Global, reply: Reply) -> WorkChange
+pub(crate) fn quiet(alloc: Global, reply: Reply) -> WorkChange
     ensures { result ≡ record { quiet = true; acts = []; done = Told reply } }
 {
     WorkChange {

@@ -1,7 +1,7 @@
 // The invocations that are running, as they are kept.
-ghost use Rattle.std.specs.Prelude.{◌≡◌, ℕ, ◌+◌, ◌-◌, ◌<◌, ◌≤◌, ◌^◌, [], length, option_copied, slice_index, vec_len, OnOk};
-ghost use Rattle.fh_dispatch.specs.Invocations.{run_of, runs_of, first_due, lowest, with_run, with_renewal, without_run, without_runs_of};
-ghost use Rattle.fh_dispatch.specs.Runs.{function_at, key_of, HasKey, HasNoKeys, IsLengthened, IsFirstKey};
+ghost use Rattle.std.specs.Prelude.{◌≡◌, ℕ, ◌+◌, ◌-◌, ◌<◌, ◌≤◌, ◌^◌, [], length, map, option_copied, slice_index, vec_len, IfOk, OnOk};
+ghost use Rattle.fh_dispatch.specs.Invocations.{run_of, runs_of, first_due, due_by, lowest, with_run, with_renewal, without_run, without_runs_of};
+ghost use Rattle.fh_dispatch.specs.Runs.{function_at, key_of, HasKey, HasNoKeys, IsLengthened, IsFirstKey, IsNextDue};
 
 use crate::Running;
 use crate::running::{OfFunction, Renewal, RunKey};
@@ -88,10 +88,25 @@ impl Invocations {
     /// The first one from a number on that is due at or before a moment in milliseconds. Takes no memory.
     pub fn first_due(&self, from: u64, most: u64) -> Option<&Running>
         requires { most < 2 ^ 64 - 2 }
-        ensures { option_copied result ≡ first_due from most self.now.running }
+        ensures first { option_copied result ≡ first_due from most self.now.running }
+        ensures next { IsNextDue from most self.now.next self.now.running (option_copied result) }
     {
         let invocation = first_key(&self.dues, from, most)?;
         self.get(invocation)
+    }
+
+    /// Those that are due at or before a moment in milliseconds, in order of number.
+    pub fn due_by(&self, alloc: Global, most: u64) -> Result<Vec<&Running>, NoMemory>
+        requires { most < 2 ^ 64 - 2 }
+        ensures { IfOk result (λ runs. map (λ run. run.now) runs.items ≡ due_by most self.now.running) }
+    {
+        let mut runs = Vec::new(alloc);
+        let mut from = 0;
+        while let Some(run) = self.first_due(from, most) {
+            runs.push(run)?;
+            from = run.invocation + 1;
+        }
+        Ok(runs)
     }
 
     /// The least number of a running invocation. Takes no memory.

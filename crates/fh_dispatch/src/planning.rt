@@ -1,8 +1,11 @@
 // What an ask comes to, before anything changes.
 ghost use Rattle.std.specs.Prelude.{◌≡◌, false, ◌∷◌, [], None, option_copied, IfOk};
 ghost use Rattle.fh_queues.specs.Edits as queue_edits;
+ghost use Rattle.fh_blobs.specs.Edits as blob_edits;
+ghost use Rattle.fh_leases.specs.Edits as lease_edits;
 ghost use Rattle.fh_timers.specs.Edits as timer_edits;
-ghost use Rattle.fh_dispatch.specs.Part.{function_of, number_or};
+ghost use Rattle.fh_dispatch.specs.Asked.{asks_queues, asks_blobs, asks_leases};
+ghost use Rattle.fh_dispatch.specs.Part.{function_of, number_or, others_with};
 ghost use Rattle.fh_event.specs.Settings.{HasGoodMasks};
 ghost use Rattle.fh_dispatch.specs.Asks.{ask_of, GivesGoodMasks};
 ghost use Rattle.fh_dispatch.specs.Settings.{is_as, has_other_trigger};
@@ -10,16 +13,18 @@ ghost use Rattle.fh_dispatch.specs.declared.act.Act.TheVariants.{Set, AddJob};
 ghost use Rattle.fh_dispatch.specs.declared.done.WorkDone.TheVariants.{Configured, Ready};
 ghost use Rattle.fh_dispatch.specs.declared.ready.Job.TheVariants.{Timer};
 ghost use Rattle.fh_dispatch.specs.Outcome.{configured, configuring, dropping, made_by, outcome};
-ghost use Rattle.fh_dispatch.specs.Queues.{made_where_missing, configuring_queues, asks_queues};
+ghost use Rattle.fh_dispatch.specs.Queues.{made_where_missing, configuring_queues};
 ghost use Rattle.fh_dispatch.specs.Timers.{removing, configuring_timers, asks_timers};
 ghost use Rattle.fh_dispatch.specs.Edits.{IsIdle, HasNumbers};
-ghost use Rattle.fh_dispatch.specs.Faults.{IsPlanOf, IsQueuesPlanOf, IsTimersPlanOf};
+ghost use Rattle.fh_dispatch.specs.Faults.{IsPlanOf, IsQueuesPlanOf, IsBlobsPlanOf, IsLeasesPlanOf, IsTimersPlanOf};
 
 use crate::act::Act;
 use crate::ask::Asking;
+use crate::effecting::plan_ruling;
 use crate::queues::queue_of;
 use crate::rules::ranges_rule;
 use crate::settings::{copy_settings, same_settings, same_trigger};
+use crate::stores::Stores;
 use crate::{Function, Job, ReadyJob, Work, WorkAsk, WorkChange, WorkDone, WorkPlan};
 use fh_base::{Moment, NoMemory, QueueName, Text};
 use fh_blobs::Blobs;
@@ -32,14 +37,14 @@ use std::alloc::Global;
 impl Work {
     /// The change that an ask makes at a moment, with the changes of the other stores, or the rule that
     /// refuses it. Rules are tested in the order of their numbers. A change that is quiet makes nothing.
-    #[tactic(auto, unfolding(crate::specs::Outcome::acting, crate::specs::Outcome::outcome, crate::specs::Queues::asks_queues, crate::specs::Timers::asks_timers))]
+    #[tactic(auto, unfolding(crate::specs::Outcome::acting, crate::specs::Outcome::outcome, crate::specs::Asked::asks_queues, crate::specs::Asked::asks_blobs, crate::specs::Asked::asks_leases, crate::specs::Timers::asks_timers))]
     pub fn plan(
         &self,
         alloc: Global,
         ask: &WorkAsk<'_>,
         queues: &Queues,
-        _blobs: &Blobs,
-        _leases: &Leases,
+        blobs: &Blobs,
+        leases: &Leases,
         timers: &Timers,
         m: Moment,
     ) -> Result<WorkPlan, PlanFault>
@@ -47,13 +52,21 @@ impl Work {
         requires numbers { HasNumbers self.now.part }
         requires queues_idle { queue_edits.IsIdle queues.now }
         requires queues_numbers { queue_edits.HasNumbers queues.now.part }
+        requires blobs_idle { blob_edits.IsIdle blobs.now }
+        requires blobs_numbers { blob_edits.HasNumbers blobs.now.part }
+        requires leases_idle { lease_edits.IsIdle leases.now }
         requires timers_idle { timer_edits.IsIdle timers.now }
-        ensures work { IsPlanOf self.now.part
-            (outcome self.now.part (record { queues = queues.now.part }) (ask_of ask.now) m) result }
-        ensures queues { IfOk result (λ plan. IsQueuesPlanOf queues.now.part
-            (asks_queues self.now.part (record { queues = queues.now.part }) (ask_of ask.now)) m plan.queues) }
-        ensures blobs { IfOk result (λ plan. plan.blobs ≡ None) }
-        ensures leases { IfOk result (λ plan. plan.leases ≡ None) }
+        ensures work { IsPlanOf self.now.part (outcome self.now.part
+            (others_with queues.now.part blobs.now.part leases.now.part timers.now.part) (ask_of ask.now) m) result }
+        ensures queues { IfOk result (λ plan. IsQueuesPlanOf queues.now.part (asks_queues self.now.part
+            (others_with queues.now.part blobs.now.part leases.now.part timers.now.part) (ask_of ask.now) m) m
+            plan.queues) }
+        ensures blobs { IfOk result (λ plan. IsBlobsPlanOf blobs.now.part (asks_blobs self.now.part
+            (others_with queues.now.part blobs.now.part leases.now.part timers.now.part) (ask_of ask.now) m) m
+            plan.blobs) }
+        ensures leases { IfOk result (λ plan. IsLeasesPlanOf leases.now.part (asks_leases self.now.part
+            (others_with queues.now.part blobs.now.part leases.now.part timers.now.part) (ask_of ask.now) m) m
+            plan.leases) }
         ensures timers { IfOk result (λ plan. IsTimersPlanOf timers.now.part
             (asks_timers self.now.part (ask_of ask.now)) m plan.timers) }
         ensures masks { IfOk result (λ plan. GivesGoodMasks (ask_of ask.now)) }
@@ -65,6 +78,28 @@ impl Work {
             WorkAsk::Ready { function, run } => Ok(alone(make_ready(alloc, *function, *run)?)),
             WorkAsk::Session => Ok(alone(self.plan_session(alloc)?)),
             WorkAsk::Fetch { function } => self.plan_fetch(alloc, function, queues, m),
+            WorkAsk::Begin {
+                function,
+                high,
+                low,
+            } => {
+                let stores = Stores::of(queues, blobs, leases, timers);
+                let ruling = self.begin(alloc, function, *high, *low, stores, m)?;
+                plan_ruling(alloc, ruling, stores, m)
+            }
+            WorkAsk::Finish {
+                invocation,
+                outcome,
+            } => {
+                let stores = Stores::of(queues, blobs, leases, timers);
+                let ruling = self.finish(alloc, *invocation, outcome, stores, m)?;
+                plan_ruling(alloc, ruling, stores, m)
+            }
+            WorkAsk::Renewals => {
+                let stores = Stores::of(queues, blobs, leases, timers);
+                let ruling = self.renewals(alloc, stores, m)?;
+                plan_ruling(alloc, ruling, stores, m)
+            }
             WorkAsk::Nothing => Ok(alone(no_acts(alloc, false, WorkDone::Nothing))),
         }
     }

@@ -1,7 +1,8 @@
 // The jobs that are ready.
-ghost use Rattle.std.specs.Prelude.{◌≡◌, ◌+◌, ◌<◌, ◌≤◌, [], length, slice_range, vec_len, vec_capacity, OnOk};
+ghost use Rattle.std.specs.Prelude.{◌≡◌, ◌+◌, ◌<◌, ◌≤◌, [], length, slice_range, vec_len, vec_capacity, MatchOption, OnOk};
+ghost use Rattle.std.specs.List.{remove};
 ghost use Rattle.std.specs.List.Sorted.{IsPartitionPoint};
-ghost use Rattle.fh_dispatch.specs.Ready.{AreInOrder, jobs_of, with_job, without_jobs_of};
+ghost use Rattle.fh_dispatch.specs.Ready.{AreInOrder, jobs_of, with_job, without_first, without_jobs_of};
 
 use fh_timers::TimerRun;
 use std::alloc::{AllocError, Global};
@@ -83,6 +84,14 @@ impl ReadyJobs {
         put(&mut self.jobs, job);
     }
 
+    /// Takes the first job of a function out, where it has one. Takes no memory.
+    pub(crate) fn take_first(&mut self, function: u64)
+        ensures jobs { self.new.rows ≡ without_first function self.old.rows }
+        ensures room { self.old.room ≤ self.new.room }
+    {
+        take_first(&mut self.jobs, function);
+    }
+
     /// Takes all jobs out. Takes no memory.
     pub(crate) fn clear(&mut self)
         ensures jobs { self.new.rows ≡ [] }
@@ -144,6 +153,36 @@ fn place_behind(jobs: &[ReadyJob], function: u64) -> usize
         jobs.now result }
 {
     jobs.partition_point(|job| job.function <= function)
+}
+
+// Takes the first job of a function out, where it has one.
+#[tactic(auto, using(crate::proofs::FirstJobs::ordered_without_first))]
+fn take_first(jobs: &mut Vec<ReadyJob>, function: u64)
+    requires { AreInOrder jobs.old.items }
+    ensures jobs { jobs.new.items ≡ without_first function jobs.old.items }
+    ensures ordered { AreInOrder jobs.new.items }
+    ensures fewer { vec_len jobs.new ≤ vec_len jobs.old }
+    ensures room { vec_capacity jobs.new ≡ vec_capacity jobs.old }
+{
+    if let Some(place) = first_place(jobs, function) {
+        let _gone = jobs.remove(place);
+    }
+}
+
+// Where the first job of a function stands, if it has one.
+fn first_place(jobs: &[ReadyJob], function: u64) -> Option<usize>
+    requires { AreInOrder jobs.now }
+    ensures { MatchOption result (jobs.now ≡ without_first function jobs.now)
+        (λ place. (place < length jobs.now) × (remove jobs.now place ≡ without_first function jobs.now)) }
+{
+    let place = place_before(jobs, function);
+    if jobs.len() <= place {
+        return None;
+    }
+    if jobs[place].function == function {
+        return Some(place);
+    }
+    None
 }
 
 // Takes the jobs of a function out.

@@ -113,7 +113,8 @@ fn mask_rule<const LOW: u8, const HIGH: u8>(given: u64) -> Option<Rule>
     })
 }
 
-fn range_rule(given: u64, low: u64, high: u64) -> Option<Rule>
+/// The number lies outside its range.
+pub(crate) fn range_rule(given: u64, low: u64, high: u64) -> Option<Rule>
     ensures { result ≡ range_rule given low high }
 {
     if low <= given && given <= high {

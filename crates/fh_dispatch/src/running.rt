@@ -1,5 +1,6 @@
 // An invocation that is running.
 ghost use Rattle.std.specs.Prelude.{◌≡◌};
+ghost use Rattle.fh_dispatch.specs.Acts.{numbered};
 ghost use Rattle.fh_dispatch.specs.Invocations.{renewed_job};
 
 use crate::Job;
@@ -17,8 +18,38 @@ pub struct Running {
     /// The function's name.
     pub name: Text,
     pub job: Job,
-    /// When its message is visible again, in milliseconds.
+    /// From when on something that it holds may be renewed, in milliseconds.
     pub due: u64,
+}
+
+/// An invocation that is to run, but for its number.
+#[derive(Drop)]
+pub(crate) struct NewRun {
+    pub(crate) function: u64,
+    pub(crate) name: Text,
+    pub(crate) job: Job,
+    pub(crate) due: u64,
+}
+
+impl NewRun {
+    /// The invocation, under this number. Takes no memory.
+    pub(crate) fn numbered(self, invocation: u64) -> Running
+        ensures { result ≡ numbered invocation self }
+    {
+        let NewRun {
+            function,
+            name,
+            job,
+            due,
+        } = self;
+        Running {
+            invocation,
+            function,
+            name,
+            job,
+            due,
+        }
+    }
 }
 
 impl Row for Running {
@@ -79,7 +110,7 @@ impl Span<Running> for OfFunction {
     }
 }
 
-/// Another receipt, where it runs for a message, and another moment at which it is visible again.
+/// Another receipt, where it runs for a message, and another moment from which on a hold may be renewed.
 #[derive(Clone, Copy)]
 pub(crate) struct Renewal {
     pub(crate) receipt: u64,

@@ -23,9 +23,10 @@ impl Work {
             acts,
             done,
         } = change;
-        // Each act adds one function or one job at most.
+        // Each act adds one function, one job or one invocation at most.
         self.functions.reserve(acts.len())?;
         self.ready.reserve(acts.len())?;
+        self.running.reserve(acts.len())?;
         Ok(StagedWork { acts, done })
     }
 
@@ -55,11 +56,13 @@ impl Work {
     fn act(&mut self, act: Act)
         requires room { 1 ≤ self.old.room }
         requires job_room { 1 ≤ self.old.job_room }
+        requires run_room { 1 ≤ self.old.run_room }
         requires numbers { self.old.part.next_function + 1 < 2 ^ 64 }
         requires sessions { self.old.part.session + 1 < 2 ^ 64 }
         ensures part { self.new.part ≡ acted self.old.part act }
         ensures room { self.old.room ≤ self.new.room + 1 }
         ensures job_room { self.old.job_room ≤ self.new.job_room + 1 }
+        ensures run_room { self.old.run_room ≤ self.new.run_room + 1 }
         ensures numbers { self.new.part.next_function ≤ self.old.part.next_function + 1 }
         ensures sessions { self.new.part.session ≤ self.old.part.session + 1 }
     {
@@ -69,9 +72,24 @@ impl Work {
                 self.functions.set(function);
             }
             Act::AddJob { job } => self.ready.add(job),
-            Act::DropJobs { function } => self.ready.drop_of(function),
+            Act::TakeFirst { function } => self.ready.take_first(function),
+            Act::AddRunning { run } => {
+                let invocation = self.running.next();
+                self.running.begin(run.numbered(invocation));
+            }
+            Act::EndRunning { invocation } => self.running.finish(invocation),
+            Act::RenewRunning {
+                invocation,
+                receipt,
+                due,
+            } => self.running.renew(invocation, receipt, due),
+            Act::DropJobs { function } => {
+                self.ready.drop_of(function);
+                self.running.drop_of(function);
+            }
             Act::BeginSession => {
                 self.ready.clear();
+                self.running.clear();
                 self.session += 1;
             }
         }

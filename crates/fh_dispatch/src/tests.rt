@@ -69,7 +69,7 @@ fn start() -> Result<Moment, Fail> {
 fn has_numbers(work: &Work) -> bool
     ensures { (result ≡ true) → HasNumbers work.now.part }
 {
-    work.next_function < 1_000_000 && work.session < 1_000_000
+    work.next_function < 1_000_000 && work.running.next() < 1_000_000 && work.session < 1_000_000
 }
 
 fn on_queue(alloc: Global, queue: &str, given: Numbers) -> Result<FunctionSettings, Fail> {

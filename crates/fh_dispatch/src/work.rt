@@ -1,7 +1,9 @@
 // The work, as it is kept, and what is read of it.
 ghost use Rattle.std.specs.Prelude.{◌≡◌, option_copied, IfOk};
 ghost use Rattle.fh_dispatch.specs.Part.{no_work, function_of};
-ghost use Rattle.fh_dispatch.specs.Ready.{jobs_of, in_work, is_busy};
+ghost use Rattle.fh_dispatch.specs.InWork.{in_work, is_busy};
+ghost use Rattle.fh_dispatch.specs.Invocations.{lowest, run_of};
+ghost use Rattle.fh_dispatch.specs.Ready.{jobs_of};
 ghost use Rattle.fh_dispatch.specs.Queues.{trigger_of};
 ghost use Rattle.fh_dispatch.specs.Timers.{timer_of};
 ghost use Rattle.fh_dispatch.specs.Edits.{IsIdle};
@@ -10,18 +12,19 @@ use crate::function::Name;
 use crate::ready::ReadyJobs;
 use crate::timer::timer_by;
 use crate::trigger::trigger_found;
-use crate::{Function, ReadyJob, Timer, Trigger};
+use crate::{Function, Invocations, ReadyJob, Running, Timer, Trigger};
 use fh_base::NoMemory;
 use fh_rows::Rows;
 use std::alloc::Global;
 use std::marker::Model;
 
-/// Functions in order of their names, the jobs that are ready, the number that the next new function gets, and how
-/// many sessions have begun.
+/// Functions in order of their names, the jobs that are ready, the invocations that are running, the number that the
+/// next new function gets, and how many sessions have begun.
 #[derive(Drop)]
 pub struct Work {
     pub(crate) functions: Rows<Function>,
     pub(crate) ready: ReadyJobs,
+    pub(crate) running: Invocations,
     pub(crate) next_function: u64,
     pub(crate) session: u64,
 }
@@ -35,11 +38,14 @@ impl Model for Work {
       part = record {
         functions = w.functions.rows;
         ready = w.ready.rows;
+        running = w.running.running;
         next_function = w.next_function;
+        next_invocation = w.running.next;
         session = w.session;
       };
       room = w.functions.room;
       job_room = w.ready.room;
+      run_room = w.running.room;
     } };
 }
 
@@ -52,6 +58,7 @@ impl Work {
         Work {
             functions: Rows::new(alloc),
             ready: ReadyJobs::new(alloc),
+            running: Invocations::new(alloc),
             next_function: 1,
             session: 0,
         }
@@ -86,16 +93,32 @@ impl Work {
         self.ready.of(function)
     }
 
-    /// How many jobs of the function of this number are in work. Takes no memory.
-    pub fn in_work(&self, function: u64) -> u64
-        ensures { result ≡ in_work function self.now.part.ready }
+    /// The invocation of this number, where it is running. Takes no memory.
+    pub fn running(&self, invocation: u64) -> Option<&Running>
+        ensures { option_copied result ≡ run_of invocation self.now.part.running }
     {
-        self.ready.of(function).len() as u64
+        self.running.get(invocation)
+    }
+
+    /// The least number of a running invocation. Takes no memory.
+    pub fn lowest_running(&self) -> Option<u64>
+        ensures { result ≡ lowest self.now.part.running }
+    {
+        self.running.lowest()
+    }
+
+    /// How many jobs of the function of this number are in work: ready, or running. Takes no memory.
+    pub fn in_work(&self, function: u64) -> u64
+        ensures { result ≡ in_work function self.now.part }
+    {
+        let ready = self.ready.of(function).len() as u64;
+        let running = self.running.of(function).len() as u64;
+        ready.saturating_add(running)
     }
 
     /// Whether a job of the function of this number is in work. Takes no memory.
     pub fn is_busy(&self, function: u64) -> bool
-        ensures { result ≡ is_busy function self.now.part.ready }
+        ensures { result ≡ is_busy function self.now.part }
     {
         self.in_work(function) != 0
     }

@@ -1,5 +1,5 @@
 -- A recorded step replies what the stores did.
-use Rattle.std.proofs.Common.{◌≡◌, ◌⊎◌, inl, inr, ℕ, ◌+◌, cond, ◌∷◌, Option, Bool, true, false, List, [], Some, None, refl, sym, ◌∙◌, ap, subst}
+use Rattle.std.proofs.Common.{◌≡◌, inl, inr, ℕ, ◌+◌, cond, ◌∷◌, Option, Bool, true, false, List, [], Some, None, refl, sym, ◌∙◌, ap, subst}
 use Rattle.std.specs.Prelude.{◌==◌, ◌||◌, if◌then◌else◌, count_by, map, fold, ⊤}
 use Rattle.std.specs.List.{list_any}
 use Rattle.fh_event.specs.declared.command.Command.{Command}
@@ -41,8 +41,8 @@ use Rattle.fh_dispatch.specs.Queues.{batch_of}
 use Rattle.fh_dispatch.specs.Outcome.{fetched_job}
 use Rattle.fh_dispatch.specs.Laws as work_laws
 use Rattle.fh_dispatch.proofs.Lawful.{answers_the_ask as work_answers, fetches_as_told}
-use Rattle.fh_hub.specs.Asked.{queue_ask_in, blob_ask_in, work_ask, asks_in}
-use Rattle.fh_hub.specs.Stores.{Parts, Done, others_of, ready_by, asked_timers}
+use Rattle.fh_hub.specs.Asked.{blob_ask_in, work_ask, asks_in}
+use Rattle.fh_hub.specs.Stores.{Parts, others_of, ready_by, asked_timers}
 use Rattle.fh_hub.specs.Replies.{reply_of_leases, reply_of_blobs, reply_of_queues, reply_of_others, reply_of_note, reply_of_timers, reply_of_work, reply_of_stores, reply_of}
 use Rattle.fh_hub.specs.Signs.{lists, has_receipt, gives_by, bears}
 use Rattle.fh_hub.specs.World.{World, effective_moment}
@@ -192,17 +192,23 @@ work_tells rows reply (work.Told other) answer told silent is = silence_tells ro
 work_tells rows reply work.Ready answer told silent is = is
 work_tells rows reply work.Nothing answer told silent is = is
 
-abbrev fetches : work_asks.Ask → Bool
-fetches (work_asks.Fetch name) = true
-fetches ask = false
+abbrev tells_jobs : work_asks.Ask → Bool
+tells_jobs (work_asks.Fetch name) = true
+tells_jobs (work_asks.Begin name high low) = true
+tells_jobs (work_asks.Finish invocation outcome) = true
+tells_jobs work_asks.Renewals = true
+tells_jobs ask = false
 
--- only a fetch tells of messages
-work_apart : (ask : work_asks.Ask) (answer : WorkDone) → fetches ask ≡ false → work_laws.answers ask answer ≡ true
+-- an ask that tells of no message
+work_apart : (ask : work_asks.Ask) (answer : WorkDone) → tells_jobs ask ≡ false → work_laws.answers ask answer ≡ true
     → IsApartWork answer
 work_apart (work_asks.Configure name settings) (work.Told reply) plain is = absurd (cc)
 work_apart (work_asks.Ready function run) (work.Told reply) plain is = absurd (cc)
 work_apart work_asks.Nothing (work.Told reply) plain is = absurd (cc)
 work_apart (work_asks.Fetch name) (work.Told reply) plain is = absurd (cc)
+work_apart (work_asks.Begin name high low) (work.Told reply) plain is = absurd (cc)
+work_apart (work_asks.Finish invocation outcome) (work.Told reply) plain is = absurd (cc)
+work_apart work_asks.Renewals (work.Told reply) plain is = absurd (cc)
 work_apart work_asks.Session (work.Told (replies.SessionBegun session)) plain is =
     apart _ (λ n. refl) (λ k rows. refl) (λ n. refl)
 work_apart work_asks.Session (work.Told reply) plain is = absurd (cc)
@@ -301,16 +307,16 @@ rests Session plain = absurd (cc)
 rests (Fetch function) plain = absurd (cc)
 rests command plain = refl
 
-ready_fetches : (function : ℕ) (run : Option TimerRun) → fetches (ready_by function run) ≡ false
-ready_fetches function None = refl
-ready_fetches function (Some run) = refl
+ready_tells : (function : ℕ) (run : Option TimerRun) → tells_jobs (ready_by function run) ≡ false
+ready_tells function None = refl
+ready_tells function (Some run) = refl
 
-fetches_by : (parts : Parts) (command : Command) (m : ℕ) → is_fetch command ≡ false
-    → fetches (asks_in parts command m).work ≡ false
-fetches_by parts (Fetch function) m plain = absurd (cc)
-fetches_by parts (Arm function) m plain = ready_fetches _ _
-fetches_by parts (Tick function) m plain = ready_fetches _ _
-fetches_by parts command m plain = refl
+tells_jobs_by : (parts : Parts) (command : Command) (m : ℕ) → is_fetch command ≡ false
+    → tells_jobs (asks_in parts command m).work ≡ false
+tells_jobs_by parts (Fetch function) m plain = absurd (cc)
+tells_jobs_by parts (Arm function) m plain = ready_tells _ _
+tells_jobs_by parts (Tick function) m plain = ready_tells _ _
+tells_jobs_by parts command m plain = refl
 
 module _ (w : World) (command : Command) (now : ℕ) (new : World) (reply : Reply) (made : Made w command now new reply)
   where
@@ -391,7 +397,7 @@ reply_tells w command now new reply made own =
     if_silent : is_fetch command ≡ false → is_silent answer ≡ true → Tells rows (reply_of made.done) answer
     if_silent plain quiet =
         let told = work_apart (asks_at w command now).work made.done.work
-        (fetches_by w.parts command (effective_moment w now) plain) (work_answered w command now new reply made) in
+        (tells_jobs_by w.parts command (effective_moment w now) plain) (work_answered w command now new reply made) in
         work_tells rows _ made.done.work answer told quiet (timers_tell rows _ made.done.timers answer quiet stores)
 
     by_kind : Kind command → Tells rows (reply_of made.done) answer

@@ -1,12 +1,11 @@
 -- Each event of a trace keeps to the bounds of functions' jobs.
-use Rattle.std.proofs.Common.{◌≡◌, ℕ, Bool, true, false, List, [], ◌∷◌, ◌++◌, Option, Some, None, refl, sym, ◌∙◌, ap, subst}
+use Rattle.std.proofs.Common.{◌≡◌, ℕ, false, List, Option, Some, None, refl, ap}
 use Rattle.std.specs.Prelude.{◌==◌}
 use Rattle.std.specs.List.{All}
 use Rattle.std.proofs.lemmas.List.Elements.{All-nil, All-push}
 use Rattle.fh_event.specs.declared.command.Command.{Command}
-use Rattle.fh_event.specs.declared.command.Command.TheVariants.{Configure, Session, Fetch, Arm, Tick}
+use Rattle.fh_event.specs.declared.command.Command.TheVariants.{Fetch, Arm, Tick}
 use Rattle.fh_event.specs.declared.reply.Reply.{Reply}
-use Rattle.fh_timers.specs.declared.ask.TimerAsk.{TimerAsk}
 use Rattle.fh_timers.specs.declared.done.TimerRun.{TimerRun}
 use Rattle.fh_timers.specs.Outcome as timers
 use Rattle.fh_dispatch.specs.declared.timer.Timer.{Timer}
@@ -15,10 +14,10 @@ use Rattle.fh_dispatch.specs.Laws as work_specs
 use Rattle.fh_dispatch.specs.Part.{WorkPart}
 use Rattle.fh_dispatch.specs.Timers.{timer_of}
 use Rattle.fh_dispatch.proofs.Lawful as work_laws
-use Rattle.fh_hub.specs.World.{World, empty, effective_moment}
+use Rattle.fh_hub.specs.World.{World, effective_moment}
 use Rattle.fh_hub.specs.Asked.{arming, ticking, asks_in}
 use Rattle.fh_hub.specs.Stores.{Parts, others_of, function_asked, run_made, ready_by}
-use Rattle.fh_hub.specs.Replay.{Entry, Event, trace, replay}
+use Rattle.fh_hub.specs.Replay.{Entry, Event, trace}
 use Rattle.fh_hub.specs.Bringing.{IsWithinBound, is_timer_of, brings, KeepsToBounds}
 use Rattle.fh_hub.proofs.Steps.{Made, asks_at, no_run, IsKept, event, kept_by_all}
 

@@ -4,7 +4,7 @@ use Rattle.std.specs.Prelude.{◌&&◌}
 use Rattle.std.specs.List.{All}
 use Rattle.std.proofs.lemmas.List.Elements.{All-nil, All-push}
 use Rattle.fh_event.specs.declared.command.Command.{Command}
-use Rattle.fh_event.specs.declared.command.Command.TheVariants.{Put, Take, Update, Delete, Clear, Note, Fetch}
+use Rattle.fh_event.specs.declared.command.Command.TheVariants.{Take, Fetch}
 use Rattle.fh_event.specs.declared.reply.Reply.{Reply}
 use Rattle.fh_queues.specs.declared.row.Message.{Message}
 use Rattle.fh_queues.specs.declared.done.QueueDone.{QueueDone}
@@ -17,7 +17,6 @@ use Rattle.fh_queues.specs.Asks.{Ask}
 use Rattle.fh_queues.specs.Tellings.{items_in, lists as lists_item}
 use Rattle.fh_queues.proofs.Lawful.{is_some-item_of, row_seen, keeps_untouched, raises_receipts}
 use Rattle.fh_hub.specs.World.{World, effective_moment}
-use Rattle.fh_hub.specs.Asked.{queue_ask_in}
 use Rattle.fh_hub.specs.Stores.{Parts}
 use Rattle.fh_hub.specs.Replay.{Entry, Event, trace}
 use Rattle.fh_hub.specs.Signs.{lists, queue_found, signs_of}

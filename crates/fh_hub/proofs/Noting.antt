@@ -1,6 +1,6 @@
 -- What was noted has its receipt, and each note has its message.
-use Rattle.std.proofs.Common.{◌≡◌, ℕ, ◌+◌, ◌≤◌, Bool, true, false, cond, List, [], ◌∷◌, ◌++◌, Some, None, refl, sym, ◌∙◌, ap, subst, arith}
-use Rattle.std.specs.Prelude.{◌==◌, ◌&&◌, ◌||◌, if◌then◌else◌, option_map}
+use Rattle.std.proofs.Common.{◌≡◌, ℕ, ◌+◌, Bool, true, false, cond, List, [], ◌∷◌, ◌++◌, Some, None, refl, sym, ◌∙◌, ap, subst, arith}
+use Rattle.std.specs.Prelude.{◌==◌, ◌&&◌, ◌||◌, option_map}
 use Rattle.std.specs.Str.{bytes_eq}
 use Rattle.std.specs.List.{All}
 use Rattle.std.proofs.lemmas.List.Elements.{All-nil, All-push}
@@ -15,7 +15,7 @@ use Rattle.fh_queues.specs.Acts.{numbered}
 use Rattle.fh_queues.specs.Asks as queues
 use Rattle.fh_queues.specs.Laws as queue_laws
 use Rattle.fh_queues.specs.Outcome.{new_message}
-use Rattle.fh_queues.specs.Seen.{Unborn, seen}
+use Rattle.fh_queues.specs.Seen.{Unborn}
 use Rattle.fh_blobs.specs.declared.blob.BlobRow.{BlobRow}
 use Rattle.fh_blobs.specs.declared.done.BlobDone.{BlobDone}
 use Rattle.fh_blobs.specs.declared.done.BlobDone.TheVariants as blobs
@@ -26,12 +26,12 @@ use Rattle.fh_blobs.proofs.Lawful.{answers_the_ask, notes_current, made_once, Wh
 use Rattle.fh_timers.specs.declared.done.TimerDone.TheVariants as timers
 use Rattle.fh_dispatch.specs.declared.done.WorkDone.TheVariants as work
 use Rattle.fh_dispatch.specs.Notes.{note_text}
-use Rattle.fh_hub.specs.Asked.{number_in, version_or_none, version_in, blob_as_it_is, message_of, blob_ask_in}
+use Rattle.fh_hub.specs.Asked.{number_in, version_or_none, version_in, blob_as_it_is, blob_ask_in}
 use Rattle.fh_hub.specs.Stores.{Parts, Done}
 use Rattle.fh_hub.specs.Replies.{reply_of}
-use Rattle.fh_hub.specs.World.{World, empty, effective_moment}
+use Rattle.fh_hub.specs.World.{World, effective_moment}
 use Rattle.fh_hub.specs.Replay.{Entry, Event, trace, replay}
-use Rattle.fh_hub.specs.Noting.{notes, times_noted, HasItsMessage, NotedAs, NotesByMessage, IsNotedOnce}
+use Rattle.fh_hub.specs.Noting.{notes, times_noted, NotedAs, NotesByMessage, IsNotedOnce}
 use Rattle.fh_hub.proofs.Steps.{Made, asked_plainly, IsKept, event, kept_by_all}
 use Rattle.fh_hub.proofs.Answering.{queues_answered, work_rests, timers_rest}
 use Rattle.fh_hub.proofs.Told.{Told, no_row, stored_row, unborn_now, told_kept, told_none}

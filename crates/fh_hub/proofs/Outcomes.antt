@@ -27,14 +27,12 @@ use Rattle.fh_timers.specs.Part.{TimerPart}
 use Rattle.fh_timers.specs.Outcome as timers
 use Rattle.fh_timers.specs.Edits as timer_edits
 use Rattle.fh_dispatch.specs.declared.done.WorkDone.{WorkDone}
-use Rattle.fh_dispatch.specs.declared.done.WorkDone.TheVariants as work_done
-use Rattle.fh_dispatch.specs.declared.act.Act.{Act as WorkAct}
 use Rattle.fh_dispatch.specs.Part.{WorkPart}
 use Rattle.fh_dispatch.specs.Outcome as work
 use Rattle.fh_dispatch.specs.Acts as work_acts
 use Rattle.fh_dispatch.specs.Edits as work_edits
 use Rattle.fh_dispatch.specs.Faults as work_faults
-use Rattle.fh_hub.specs.Stores.{Parts, Asks, Done, others_of, AllParts, AllDone, asked_timers, asked_queues, parts_with, done_with, of_all, led_by, joined, outcomes}
+use Rattle.fh_hub.specs.Stores.{Parts, Asks, Done, others_of, AllParts, AllDone, asked_timers, asked_queues, asked_blobs, asked_leases, parts_with, done_with, of_all, led_by, joined, outcomes}
 use Rattle.fh_hub.specs.StoreEdits.{IsPlanOf, both_planned, IsOutcome}
 
 -- ---- plans
@@ -131,8 +129,8 @@ pub fault_of_work : (parts : Parts) (asks : Asks) (m : ℕ) (fault : PlanFault)
 unfolding outcomes
 fault_of_work parts asks m (OfRule rule) is =
     ap (λ judged. joined judged (timers.outcome parts.timers (asked_timers parts asks) m)
-    (queues.outcome parts.queues (asked_queues parts asks) m) (blobs.outcome parts.blobs asks.blobs m)
-    (leases.outcome parts.leases asks.leases m)) is
+    (queues.outcome parts.queues (asked_queues parts asks m) m) (blobs.outcome parts.blobs (asked_blobs parts asks m) m)
+    (leases.outcome parts.leases (asked_leases parts asks m) m)) is
 fault_of_work parts asks m NoMemory is = tt
 
 timers_plan : (part : TimerPart) (outcome : Judged TimerPart TimerDone) (result : Result timer_edits.Change PlanFault)
@@ -146,10 +144,10 @@ module _ (parts : Parts) (asks : Asks) (m : ℕ) (of_work : work_edits.Change)
     (of_blobs : Result blob_edits.Change PlanFault) (of_leases : Result lease_edits.Change PlanFault)
     (led : work.outcome parts.work (others_of parts) asks.work m ≡ work_edits.planned parts.work of_work)
     (timed : timer_edits.IsPlanOf parts.timers (timers.outcome parts.timers (asked_timers parts asks) m) of_timers)
-    (queued : Plans (queues.outcome parts.queues (asked_queues parts asks) m) (queue_edits.planned parts.queues)
+    (queued : Plans (queues.outcome parts.queues (asked_queues parts asks m) m) (queue_edits.planned parts.queues)
     of_queues)
-    (stored : Plans (blobs.outcome parts.blobs asks.blobs m) (blob_edits.planned parts.blobs) of_blobs)
-    (leased : Plans (leases.outcome parts.leases asks.leases m) (lease_edits.planned parts.leases) of_leases) where
+    (stored : Plans (blobs.outcome parts.blobs (asked_blobs parts asks m) m) (blob_edits.planned parts.blobs) of_blobs)
+    (leased : Plans (leases.outcome parts.leases (asked_leases parts asks m) m) (lease_edits.planned parts.leases) of_leases) where
   abbrev planned_blobs : blob_edits.Change × lease_edits.Change → Judged (BlobPart × LeasePart) (BlobDone × LeaseDone)
   planned_blobs c = both (blob_edits.planned parts.blobs c.0) (lease_edits.planned parts.leases c.1)
 
@@ -161,21 +159,21 @@ module _ (parts : Parts) (asks : Asks) (m : ℕ) (of_work : work_edits.Change)
   blobs_fit c = accepted_both (blob_edits.planned parts.blobs c.0) (lease_edits.planned parts.leases c.1)
       (blobs_accepted parts.blobs c.0.acts c.0.done) refl
 
-  inner : Plans (both (blobs.outcome parts.blobs asks.blobs m) (leases.outcome parts.leases asks.leases m))
+  inner : Plans (both (blobs.outcome parts.blobs (asked_blobs parts asks m) m) (leases.outcome parts.leases (asked_leases parts asks m) m))
       planned_blobs (both_planned of_blobs of_leases)
   inner = both_plan _ _ (blob_edits.planned parts.blobs) (lease_edits.planned parts.leases) of_blobs of_leases
       (λ c. blobs_accepted parts.blobs c.acts c.done) (λ c. refl) stored leased
 
-  middle : Plans (both (queues.outcome parts.queues (asked_queues parts asks) m)
-      (both (blobs.outcome parts.blobs asks.blobs m) (leases.outcome parts.leases asks.leases m)))
+  middle : Plans (both (queues.outcome parts.queues (asked_queues parts asks m) m)
+      (both (blobs.outcome parts.blobs (asked_blobs parts asks m) m) (leases.outcome parts.leases (asked_leases parts asks m) m)))
       planned_queues (both_planned of_queues (both_planned of_blobs of_leases))
   middle = both_plan _ _ (queue_edits.planned parts.queues) planned_blobs
       of_queues (both_planned of_blobs of_leases) (λ c. queues_accepted parts.queues c.acts c.done)
       blobs_fit queued inner
 
   whole : Plans (both (timers.outcome parts.timers (asked_timers parts asks) m)
-      (both (queues.outcome parts.queues (asked_queues parts asks) m)
-      (both (blobs.outcome parts.blobs asks.blobs m) (leases.outcome parts.leases asks.leases m))))
+      (both (queues.outcome parts.queues (asked_queues parts asks m) m)
+      (both (blobs.outcome parts.blobs (asked_blobs parts asks m) m) (leases.outcome parts.leases (asked_leases parts asks m) m))))
       (λ (c : timer_edits.Change × (queue_edits.Change × (blob_edits.Change × lease_edits.Change))). both
       (timer_edits.planned parts.timers c.0) (planned_queues c.1))
       (both_planned of_timers (both_planned of_queues (both_planned of_blobs of_leases)))
@@ -299,8 +297,9 @@ abbrev pub MadeOf : Parts → Asks → ℕ → Parts → Done → Type 0
 MadeOf parts asks m after done =
     MakesAll (work.outcome parts.work (others_of parts) asks.work m)
     (timers.outcome parts.timers (asked_timers parts asks) m)
-    (queues.outcome parts.queues (asked_queues parts asks) m)
-    (blobs.outcome parts.blobs asks.blobs m) (leases.outcome parts.leases asks.leases m) after done
+    (queues.outcome parts.queues (asked_queues parts asks m) m)
+    (blobs.outcome parts.blobs (asked_blobs parts asks m) m)
+    (leases.outcome parts.leases (asked_leases parts asks m) m) after done
 
 pub all_make : (parts : Parts) (asks : Asks) (m : ℕ) (after : Parts) (done : Done)
     → outcomes parts asks m ≡ Makes after done → MadeOf parts asks m after done
@@ -308,14 +307,14 @@ unfolding outcomes
 all_make parts asks m after done is =
     joined_make (work.outcome parts.work (others_of parts) asks.work m)
     (timers.outcome parts.timers (asked_timers parts asks) m)
-    (queues.outcome parts.queues (asked_queues parts asks) m) (blobs.outcome parts.blobs asks.blobs m)
-    (leases.outcome parts.leases asks.leases m) after done is
+    (queues.outcome parts.queues (asked_queues parts asks m) m) (blobs.outcome parts.blobs (asked_blobs parts asks m) m)
+    (leases.outcome parts.leases (asked_leases parts asks m) m) after done is
 
 pub is_outcome_of_queues : (parts after : Parts) (done : Done) → IsOutcome parts after done
     → queue_edits.IsOutcome parts.queues (after.queues, done.queues)
 is_outcome_of_queues parts after done is =
     record {
-      ask = asked_queues parts is.asks;
+      ask = asked_queues parts is.asks is.moment;
       moment = is.moment;
       is =
           (all_make parts is.asks is.moment after done is.is).queues;

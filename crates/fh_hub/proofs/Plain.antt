@@ -1,5 +1,5 @@
 -- The asks that the hub makes of the queues: none is about a held message of an invocation.
-use Rattle.std.proofs.Common.{◌≡◌, inl, inr, ℕ, ◌≤◌, Bool, true, false, List, Option, Some, None, refl, sym, ◌∙◌, ap, subst, arith}
+use Rattle.std.proofs.Common.{◌≡◌, inl, inr, ◌≤◌, Bool, true, false, Some, refl, ◌∙◌, ap, arith}
 use Rattle.fh_event.specs.declared.command.Command.{Command}
 use Rattle.fh_event.specs.declared.command.Command.TheVariants.{MakeQueue, Put, Take, Update, Delete, Clear, Note, Configure, Fetch}
 use Rattle.fh_queues.specs.declared.done.Ending.{Ending}
@@ -9,7 +9,6 @@ use Rattle.fh_queues.specs.declared.done.QueueDone.TheVariants as done
 use Rattle.fh_queues.specs.declared.row.Message.{Message}
 use Rattle.fh_queues.specs.Asks as queues
 use Rattle.fh_queues.specs.Goings.{ends, ended_if}
-use Rattle.fh_queues.specs.Rows.{is_of}
 use Rattle.fh_queues.specs.Laws.{answers, most_numbers, most_receipts}
 use Rattle.fh_hub.specs.Stores.{Parts}
 use Rattle.fh_hub.specs.Asked.{queue_ask_in}

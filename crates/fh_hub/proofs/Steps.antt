@@ -18,7 +18,9 @@ use Rattle.fh_queues.specs.Outcome as queues
 use Rattle.fh_queues.specs.Outcome.{peeked}
 use Rattle.fh_blobs.specs.declared.blob.BlobRow.{BlobRow}
 use Rattle.fh_blobs.specs.Part.{blob_of, unnoted}
+use Rattle.fh_blobs.specs.Asks as blob_asks
 use Rattle.fh_blobs.specs.Outcome as blobs
+use Rattle.fh_leases.specs.Asks as lease_asks
 use Rattle.fh_leases.specs.Outcome as leases
 use Rattle.fh_timers.specs.declared.ask.TimerAsk.{TimerAsk}
 use Rattle.fh_timers.specs.declared.ask.TimerAsk.TheVariants as timer_asks
@@ -33,14 +35,15 @@ use Rattle.fh_timers.proofs.Lawful.{answers_the_ask as timers_answer}
 use Rattle.fh_dispatch.specs.declared.done.WorkDone.{WorkDone}
 use Rattle.fh_dispatch.specs.declared.timer.Timer.{Timer}
 use Rattle.fh_dispatch.specs.declared.trigger.Trigger.{Trigger}
-use Rattle.fh_dispatch.specs.Queues.{trigger_of, batch_of, asks_queues}
+use Rattle.fh_dispatch.specs.Asked.{asks_queues, asks_blobs, asks_leases}
+use Rattle.fh_dispatch.specs.Queues.{trigger_of, batch_of}
 use Rattle.fh_dispatch.specs.Asks as work_asks
 use Rattle.fh_dispatch.specs.Laws as work_laws
 use Rattle.fh_dispatch.specs.Timers.{timer_of}
 use Rattle.fh_dispatch.specs.Part.{WorkPart, Others, function_of}
 use Rattle.fh_dispatch.specs.Outcome as work
 use Rattle.fh_dispatch.proofs.Lawful.{asks_as_it_says, asks_only_to_remove, fetches_as_told}
-use Rattle.fh_hub.specs.Stores.{Parts, Asks, Done, others_of, function_asked, run_made, ready_by, asked_timers, asked_queues, outcomes, too_full}
+use Rattle.fh_hub.specs.Stores.{Parts, Asks, Done, others_of, function_asked, run_made, ready_by, asked_timers, asked_queues, asked_blobs, asked_leases, outcomes, too_full}
 use Rattle.fh_hub.specs.Names.{has_good_names}
 use Rattle.fh_hub.specs.Asked.{Asked, Refuses, Reads, AsksAll, number_in, queue_ask_in, blob_ask_in, lease_ask, timer_ask_in, work_ask, asks_in, reads_items, reads_blob, works_on_blobs, unless_strange, unless_missing, unless_untimed, asked_of, unless_misnamed, asked}
 use Rattle.fh_hub.specs.Replies.{reply_of}
@@ -152,16 +155,6 @@ queues_asked parts (Arm function) m = refl
 queues_asked parts (Tick function) m = refl
 queues_asked parts command m = refl
 
-blobs_asked : (parts : Parts) (command : Command) (m : ℕ) → (asks_in parts command m).blobs ≡ blob_ask_in parts command
-blobs_asked parts (Arm function) m = refl
-blobs_asked parts (Tick function) m = refl
-blobs_asked parts command m = refl
-
-leases_asked : (parts : Parts) (command : Command) (m : ℕ) → (asks_in parts command m).leases ≡ lease_ask command
-leases_asked parts (Arm function) m = refl
-leases_asked parts (Tick function) m = refl
-leases_asked parts command m = refl
-
 own_timers_asked : (parts : Parts) (command : Command) (m : ℕ)
     → (asks_in parts command m).timers ≡ timer_ask_in parts command
 own_timers_asked parts (Arm function) m = refl
@@ -188,16 +181,54 @@ configures_by parts command m is = by_kind (is_timed command) refl
         (ap work_laws.is_configure (sym (work_timed parts command m timed)) ∙ is))
 
 -- who asks at most that a run be ready asks nothing of the queues
-ready_asks_none : (part : WorkPart) (others : Others) (function : ℕ) (run : Option TimerRun)
-    → asks_queues part others (ready_by function run) ≡ None
-ready_asks_none part others function None = asks_as_it_says part others work_asks.Nothing
-ready_asks_none part others function (Some run) = asks_as_it_says part others (work_asks.Ready function run)
+ready_asks_none : (part : WorkPart) (others : Others) (function : ℕ) (run : Option TimerRun) (m : ℕ)
+    → asks_queues part others (ready_by function run) m ≡ None
+ready_asks_none part others function None m = asks_as_it_says part others work_asks.Nothing m
+ready_asks_none part others function (Some run) m = asks_as_it_says part others (work_asks.Ready function run) m
+
+-- nor of the blobs and the leases
+ready_asks_no_blobs : (part : WorkPart) (others : Others) (function : ℕ) (run : Option TimerRun) (m : ℕ)
+    → asks_blobs part others (ready_by function run) m ≡ None
+unfolding asks_blobs
+ready_asks_no_blobs part others function None m = refl
+ready_asks_no_blobs part others function (Some run) m = refl
+
+ready_asks_no_leases : (part : WorkPart) (others : Others) (function : ℕ) (run : Option TimerRun) (m : ℕ)
+    → asks_leases part others (ready_by function run) m ≡ None
+unfolding asks_leases
+ready_asks_no_leases part others function None m = refl
+ready_asks_no_leases part others function (Some run) m = refl
+
+-- the work asks nothing of the blobs and the leases by these commands
+pub asked_of_blobs : (parts : Parts) (command : Command) (m : ℕ)
+    → asked_blobs parts (asks_in parts command m) m ≡ blob_ask_in parts command
+unfolding asks_blobs
+asked_of_blobs parts (Arm function) m =
+    ap (λ ask. unwrap_or ask blob_asks.Nothing) (ready_asks_no_blobs parts.work (others_of parts) _ _ m)
+asked_of_blobs parts (Tick function) m =
+    ap (λ ask. unwrap_or ask blob_asks.Nothing) (ready_asks_no_blobs parts.work (others_of parts) _ _ m)
+asked_of_blobs parts (Configure function settings) m = refl
+asked_of_blobs parts (Fetch function) m = refl
+asked_of_blobs parts Session m = refl
+asked_of_blobs parts command m = refl
+
+pub asked_of_leases : (parts : Parts) (command : Command) (m : ℕ)
+    → asked_leases parts (asks_in parts command m) m ≡ lease_ask command
+unfolding asks_leases
+asked_of_leases parts (Arm function) m =
+    ap (λ ask. unwrap_or ask lease_asks.Nothing) (ready_asks_no_leases parts.work (others_of parts) _ _ m)
+asked_of_leases parts (Tick function) m =
+    ap (λ ask. unwrap_or ask lease_asks.Nothing) (ready_asks_no_leases parts.work (others_of parts) _ _ m)
+asked_of_leases parts (Configure function settings) m = refl
+asked_of_leases parts (Fetch function) m = refl
+asked_of_leases parts Session m = refl
+asked_of_leases parts command m = refl
 
 pub asked_of_queues : (parts : Parts) (command : Command) (m : ℕ) (after : WorkPart) (answer : WorkDone)
     → work.outcome parts.work (others_of parts) (asks_in parts command m).work m ≡ judging.Makes after answer
-    → IsAskedOf parts command (asked_queues parts (asks_in parts command m))
+    → IsAskedOf parts command (asked_queues parts (asks_in parts command m) m)
 asked_of_queues parts (Configure function settings) m after answer is =
-    elim (asks_as_it_says parts.work (others_of parts) (work_asks.Configure function settings)) [
+    elim (asks_as_it_says parts.work (others_of parts) (work_asks.Configure function settings) m) [
       | inl none ↦ inl (ap (λ ask. unwrap_or ask queue_asks.Sweep) none)
       | inr one ↦ inr (one.0, ap (λ ask. unwrap_or ask queue_asks.Sweep) one.1)
     ]
@@ -205,14 +236,14 @@ asked_of_queues parts (Fetch function) m after answer is =
     let fetch = fetches_as_told parts.work (others_of parts) function m after answer is in
     (fetch.trigger, fetch.found, ap (λ ask. unwrap_or ask queue_asks.Sweep) fetch.asks)
 asked_of_queues parts (Arm function) m after answer is =
-    ap (λ ask. unwrap_or ask queue_asks.Sweep) (ready_asks_none parts.work (others_of parts) _ _)
+    ap (λ ask. unwrap_or ask queue_asks.Sweep) (ready_asks_none parts.work (others_of parts) _ _ m)
 asked_of_queues parts (Tick function) m after answer is =
-    ap (λ ask. unwrap_or ask queue_asks.Sweep) (ready_asks_none parts.work (others_of parts) _ _)
+    ap (λ ask. unwrap_or ask queue_asks.Sweep) (ready_asks_none parts.work (others_of parts) _ _ m)
 asked_of_queues parts Session m after answer is =
-    ap (λ ask. unwrap_or ask queue_asks.Sweep) (asks_as_it_says parts.work (others_of parts) work_asks.Session)
+    ap (λ ask. unwrap_or ask queue_asks.Sweep) (asks_as_it_says parts.work (others_of parts) work_asks.Session m)
 asked_of_queues parts command m after answer is =
     ap (λ ask. unwrap_or ask (queue_ask_in parts command))
-    (asks_as_it_says parts.work (others_of parts) work_asks.Nothing)
+    (asks_as_it_says parts.work (others_of parts) work_asks.Nothing m)
 
 pub timer_ask_plain : (parts : Parts) (command : Command) → is_timed command ≡ false
     → timer_ask_in parts command ≡ timer_asks.Nothing
@@ -355,11 +386,11 @@ module _ (w : World) (command : Command) (now : ℕ) (new : World) (reply : Repl
       let did = all_make w.parts (asks_in w.parts command m) m new.parts answer told in
       record {
         done = answer;
-        ask = asked_queues w.parts (asks_at w command now);
+        ask = asked_queues w.parts (asks_at w command now) (effective_moment w now);
         asked = asked_of_queues w.parts command m new.parts.work answer.work did.work;
         queues = did.queues;
-        blobs = ap (λ a. blobs.outcome w.parts.blobs a m) (sym (blobs_asked w.parts command m)) ∙ did.blobs;
-        leases = ap (λ a. leases.outcome w.parts.leases a m) (sym (leases_asked w.parts command m)) ∙ did.leases;
+        blobs = ap (λ a. blobs.outcome w.parts.blobs a m) (sym (asked_of_blobs w.parts command m)) ∙ did.blobs;
+        leases = ap (λ a. leases.outcome w.parts.leases a m) (sym (asked_of_leases w.parts command m)) ∙ did.leases;
         timers = did.timers;
         work = did.work;
         timely = grind (arith, nat_tests, in_time);

@@ -1,6 +1,6 @@
 -- The due times of timers rise and are scheduled, and one run of a function is ready.
-use Rattle.std.proofs.Common.{◌≡◌, ◌⊎◌, inl, inr, ℕ, ◌*◌, ◌<◌, ◌≤◌, Bool, true, false, List, [], ◌∷◌, ◌++◌, Option, Some, None, refl, sym, ◌∙◌, ap, subst, arith}
-use Rattle.std.specs.Prelude.{◌==◌, ◌&&◌, nat_lt, if◌then◌else◌, IfSome, option_map, unwrap_or, pos}
+use Rattle.std.proofs.Common.{◌≡◌, ◌⊎◌, inl, inr, ℕ, ◌<◌, ◌≤◌, Bool, true, false, List, [], ◌∷◌, ◌++◌, Option, Some, None, refl, sym, ◌∙◌, ap, subst, arith}
+use Rattle.std.specs.Prelude.{◌==◌, ◌&&◌, if◌then◌else◌, IfSome, option_map, unwrap_or, pos}
 use Rattle.std.specs.List.{All}
 use Rattle.std.proofs.lemmas.Bool.Decides.{nat_tests}
 use Rattle.std.proofs.lemmas.List.Elements.{All-nil, All-push}
@@ -20,7 +20,6 @@ use Rattle.fh_timers.specs.declared.done.TimerDone.TheVariants as done
 use Rattle.fh_timers.specs.declared.done.TimerRun.{TimerRun}
 use Rattle.fh_timers.specs.Outcome as timers
 use Rattle.fh_timers.specs.Part.{TimerPart, row_of}
-use Rattle.fh_timers.specs.Runs.{run_of}
 use Rattle.fh_timers.specs.Laws as laws
 use Rattle.fh_timers.specs.Laws.{next_of, schedule_given, due_time, IsDueAt, IsDueBetween, IsTimeGiven}
 use Rattle.fh_timers.proofs.Lawful as timer_laws
@@ -32,16 +31,16 @@ use Rattle.fh_dispatch.specs.Asks as work
 use Rattle.fh_dispatch.specs.Laws as work_specs
 use Rattle.fh_dispatch.specs.Laws.{number_of}
 use Rattle.fh_dispatch.specs.Part.{WorkPart, function_of}
-use Rattle.fh_dispatch.specs.Ready.{is_busy, runs_in}
-use Rattle.fh_dispatch.specs.Timers.{timer_by, timer_found, timer_of, asks_timers}
+use Rattle.fh_dispatch.specs.InWork.{is_busy, runs_in}
+use Rattle.fh_dispatch.specs.Timers.{timer_found, timer_of, asks_timers}
 use Rattle.fh_dispatch.proofs.Lawful as work_laws
 use Rattle.fh_hub.specs.Asked.{arming, ticking, timer_ask_in, work_ask}
 use Rattle.fh_hub.specs.Stores.{Parts, others_of, function_asked, run_made, ready_by, asked_timers}
-use Rattle.fh_hub.specs.Replies.{reply_of_timers, reply_of_work, reply_of_stores, reply_of}
+use Rattle.fh_hub.specs.Replies.{reply_of_timers, reply_of_work, reply_of_stores}
 use Rattle.fh_hub.specs.World.{World, empty, effective_moment}
 use Rattle.fh_hub.specs.Replay.{Entry, Event, trace, replay}
 use Rattle.fh_hub.specs.Timing.{timer_in, due_told, due_if, due_of, DueTimes, is_above, and_then, due_times, IsScheduled, IsDueInTime, RunsInTurn}
-use Rattle.fh_hub.proofs.Steps.{Made, is_configure, is_timed, asks_at, no_run, work_asked, work_timed, IsTimerAskOf, asked_of_timers, timers_asked_plainly, timer_ask_plain, IsKept, event, kept_by_all}
+use Rattle.fh_hub.proofs.Steps.{Made, is_configure, is_timed, asks_at, no_run, work_asked, work_timed, asked_of_timers, timers_asked_plainly, IsKept, event, kept_by_all}
 use Rattle.fh_hub.proofs.Answering.{timers_answered, work_answered}
 
 -- ---- what a timer's command asks
@@ -66,7 +65,7 @@ timer-number name part timer is = by_found (function_of name part.functions) ref
 record AsksFor (parts : Parts) (timer : Timer) (ask : TimerAsk) : Type 0 where
   about : (f : ℕ) → laws.is_about f ask ≡ (timer.function == f)
   given : (f : ℕ) → schedule_given f ask ≡ (if timer.function == f then Some timer.schedule else None)
-  busy : laws.is_busy ask ≡ is_busy timer.function parts.work.ready
+  busy : laws.is_busy ask ≡ is_busy timer.function parts.work
   asked : function_asked ask ≡ timer.function
 
 asks_for : (parts : Parts) (command : Command) (timer : Timer) → timer_in parts command ≡ Some timer
@@ -162,7 +161,7 @@ record Timed (events : List Event) (w : World) : Type 0 where
   rising : (f : ℕ) → Rising (due_times f events) w.last (next_of (row_of f w.parts.timers.timers))
   scheduled : (name : List ℕ) (timer : Timer) → timer_of name w.parts.work.functions ≡ Some timer
       → (time : ℕ) → next_of (row_of timer.function w.parts.timers.timers) ≡ Some time → IsScheduled timer time
-  one : (f : ℕ) → runs_in f w.parts.work.ready ≤ 1
+  one : (f : ℕ) → runs_in f w.parts.work ≤ 1
   due : All IsDueInTime events
 
 -- a due time is the next one that was stored, and then comes a later one
@@ -502,7 +501,7 @@ module _ (events : List Event) (w : World) (command : Command) (now : ℕ) (new 
           ∙ ap (λ a. run_made (timers.outcome w.parts.timers a m)) (sym (asks_none w.parts command is)) ∙ makes))
       by_found (Some timer) is (Some run) makes =
           let about = asks_for w.parts command timer is in
-          ap (λ f. is_busy f w.parts.work.ready) about.asked ∙ sym about.busy
+          ap (λ f. is_busy f w.parts.work) about.asked ∙ sym about.busy
           ∙ idle run (timers.outcome w.parts.timers own m) refl makes
 
       by_kind : (b : Bool) → is_timed command ≡ b → work_specs.FindsNoJob w.parts.work given
@@ -512,7 +511,7 @@ module _ (events : List Event) (w : World) (command : Command) (now : ℕ) (new 
           subst (work_specs.FindsNoJob w.parts.work) (sym (work_timed w.parts command m kind))
           (by_found (timer_in w.parts command) refl (run_made (timers.outcome w.parts.timers own m)) refl)
 
-  one_after : (f : ℕ) → runs_in f new.parts.work.ready ≤ 1
+  one_after : (f : ℕ) → runs_in f new.parts.work ≤ 1
   one_after f = work_laws.keeps_one_run w.parts.work (others_of w.parts)
       given m new.parts.work made.done.work h.work made.work finds_none f (h.one f)
 

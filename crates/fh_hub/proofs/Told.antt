@@ -6,7 +6,7 @@ use Rattle.std.proofs.lemmas.Bool.Decides.{nat_tests}
 use Rattle.std.proofs.lemmas.List.Sums.{fold_push, sum_by_push}
 use Rattle.std.proofs.lemmas.List.Recursion.{or_push}
 use Rattle.fh_event.specs.declared.command.Command.{Command}
-use Rattle.fh_event.specs.declared.command.Command.TheVariants.{Put, Take, Update, Delete, Clear, Note, Fetch}
+use Rattle.fh_event.specs.declared.command.Command.TheVariants.{Take, Fetch}
 use Rattle.fh_event.specs.declared.reply.Reply.{Reply}
 use Rattle.fh_queues.specs.declared.row.Message.{Message}
 use Rattle.fh_queues.specs.declared.done.QueueDone.{QueueDone}
@@ -23,12 +23,11 @@ use Rattle.fh_queues.specs.Part.{QueuePart, no_queues, end_of}
 use Rattle.fh_queues.specs.Outcome.{after, new_message}
 use Rattle.fh_queues.specs.Seen.{Seen, Unborn, Stands, Ended, seen_by, seen}
 use Rattle.fh_queues.specs.Whole.{IsWhole}
-use Rattle.fh_queues.specs.Receipts.{born, given}
+use Rattle.fh_queues.specs.Receipts.{born}
 use Rattle.fh_queues.specs.Goings.{answered, ends, ended_or, newly, goes_on}
 use Rattle.fh_queues.specs.Tellings.{items_in, lists as lists_item, own_hold, held_if, held_after, hold_given, queue_given, expiry_given, removes, is_removal, IsNew, IsPassedOver, TellsOfMessages}
 use Rattle.fh_queues.proofs.Lawful.{Whole-none, Whole-outcome, row_seen, goes_as_answered, gives_numbers, gives_receipts, moves_little, tells}
 use Rattle.fh_hub.specs.World.{World, empty, effective_moment}
-use Rattle.fh_hub.specs.Asked.{queue_ask_in}
 use Rattle.fh_hub.specs.Stores.{Parts}
 use Rattle.fh_hub.specs.Replay.{Entry, Event, trace, replay}
 use Rattle.fh_hub.specs.Signs.{signs_of, signs, lists, has_receipt, gives, bears}
@@ -36,7 +35,7 @@ use Rattle.fh_hub.specs.Laws.{births, receipts}
 use Rattle.fh_hub.specs.Places.{birth_of, expiry_by, queue_by, expiry_of, queue_of, last_hold, was_removed}
 use Rattle.fh_hub.proofs.Steps.{Made, IsAskedOf, as_asked, IsKept, event, kept_by_all}
 use Rattle.fh_hub.proofs.Answering.{HasOwnReceipt, Tells, queues_answered, reply_tells}
-use Rattle.fh_hub.proofs.Plain.{is_plain, plain_asked, ends_plainly, few_numbers, few_receipts}
+use Rattle.fh_hub.proofs.Plain.{is_plain, plain_asked, ends_plainly}
 use Rattle.fh_hub.proofs.Births.{birth_now, birth_then}
 
 -- once for each number from 1 on and below the next one

@@ -26,7 +26,7 @@ use Rattle.fh_dispatch.specs.Asks as work
 use Rattle.fh_dispatch.specs.Notes.{note_text}
 use Rattle.fh_dispatch.specs.Part.{WorkPart, function_of, number_or}
 use Rattle.fh_dispatch.specs.Queues.{inner_queue}
-use Rattle.fh_dispatch.specs.Ready.{is_busy}
+use Rattle.fh_dispatch.specs.InWork.{is_busy}
 use Rattle.fh_dispatch.specs.Timers.{timer_of}
 use Rattle.fh_hub.specs.Stores.{Parts, Asks, function_asked, run_made, ready_by}
 use Rattle.fh_hub.specs.Names.{has_good_names}
@@ -110,11 +110,11 @@ blob_ask_in parts command = blob_ask command
 abbrev pub arming : WorkPart → Option Timer → TimerAsk
 arming part None = timers.Nothing
 arming part (Some timer) =
-    timers.Arm timer.function timer.schedule timer.startup timer.monitor (is_busy timer.function part.ready)
+    timers.Arm timer.function timer.schedule timer.startup timer.monitor (is_busy timer.function part)
 
 abbrev pub ticking : WorkPart → Option Timer → TimerAsk
 ticking part None = timers.Nothing
-ticking part (Some timer) = timers.Tick timer.function timer.schedule (is_busy timer.function part.ready)
+ticking part (Some timer) = timers.Tick timer.function timer.schedule (is_busy timer.function part)
 
 abbrev pub timer_ask_in : Parts → Command → TimerAsk
 timer_ask_in parts (Arm function) = arming parts.work (timer_of function parts.work.functions)

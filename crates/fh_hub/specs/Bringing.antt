@@ -1,11 +1,11 @@
 -- How many jobs of a function are in work, by the events of a trace.
-use Rattle.std.specs.Prelude.{◌≡◌, ⊤, ℕ, ◌≤◌, ◌==◌, Bool, false, List, Option, None, Some}
+use Rattle.std.specs.Prelude.{◌≡◌, ⊤, ℕ, ◌≤◌, ◌==◌, Bool, false, Option, None, Some}
 use Rattle.fh_event.specs.declared.command.Command.{Command}
 use Rattle.fh_event.specs.declared.command.Command.TheVariants.{Fetch, Arm, Tick}
 use Rattle.fh_dispatch.specs.declared.timer.Timer.{Timer}
 use Rattle.fh_dispatch.specs.Part.{WorkPart}
 use Rattle.fh_dispatch.specs.Queues.{trigger_of}
-use Rattle.fh_dispatch.specs.Ready.{in_work}
+use Rattle.fh_dispatch.specs.InWork.{in_work}
 use Rattle.fh_dispatch.specs.Timers.{timer_of}
 use Rattle.fh_dispatch.specs.Laws.{number_for, IsWithin}
 use Rattle.fh_hub.specs.Replay.{Event}
@@ -31,4 +31,4 @@ pub record KeepsToBounds (e : Event) : Type 0 where
   pub fetch : IsWithinBound e e.command
   pub others :
       (f : ℕ) → brings f e.before.parts.work e.command ≡ false
-      → in_work f e.after.parts.work.ready ≤ in_work f e.before.parts.work.ready
+      → in_work f e.after.parts.work ≤ in_work f e.before.parts.work

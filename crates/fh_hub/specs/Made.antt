@@ -1,5 +1,5 @@
 -- What turns make of a hub.
-use Rattle.std.specs.Prelude.{◌≡◌, ◌⊎◌, ℕ, Bool, true, List, [], ◌∷◌, ◌++◌}
+use Rattle.std.specs.Prelude.{◌≡◌, ◌⊎◌, true, List, [], ◌∷◌, ◌++◌}
 use Rattle.fh_disk.specs.declared.disk.Disk.{Ghosts}
 use Rattle.fh_hub.specs.declared.hub.Hub.{Hub}
 use Rattle.fh_hub.specs.State.{world_of, IsFaithful}

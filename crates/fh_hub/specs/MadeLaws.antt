@@ -1,6 +1,6 @@
 -- Turns that follow each other are one list.
-use Rattle.std.specs.Prelude.{◌≡◌, ◌⊎◌, ℕ, List, [], ◌∷◌, ◌++◌, refl}
-use Rattle.std.proofs.Common.{sym, ◌∙◌, ap, inl, inr, append_assoc, append-nil}
+use Rattle.std.specs.Prelude.{◌≡◌, ℕ, List, [], ◌∷◌, ◌++◌, refl}
+use Rattle.std.proofs.Common.{sym, ◌∙◌, ap, append_assoc, append-nil}
 use Rattle.fh_disk.specs.declared.disk.Disk.{Ghosts}
 use Rattle.fh_hub.specs.declared.hub.Hub.{Hub}
 use Rattle.fh_hub.specs.Hub.{faults_of}
@@ -9,7 +9,7 @@ use Rattle.fh_hub.specs.World.{World}
 use Rattle.fh_hub.specs.Replay.{Entry}
 use Rattle.fh_hub.specs.Turns.{Turn, AreLegal, world_by, world_behind, count_behind, recorded, noted_answered}
 use Rattle.fh_hub.specs.Turns.{failed, failed_answered}
-use Rattle.fh_hub.specs.Made.{KeepsOneIn, Made}
+use Rattle.fh_hub.specs.Made.{Made}
 
 pub world_joined : (w : World) (first later : List Turn)
     → world_behind w (first ++ later) ≡ world_behind (world_behind w first) later

@@ -30,6 +30,7 @@ pub record IsBounded (s : HubState) : Type 0 where
   pub receipt : s.stores.queues.part.next_receipt ≤ s.gate * s.gate
   pub version : s.stores.blobs.part.next_version ≤ s.gate
   pub function : s.stores.work.part.next_function ≤ s.gate
+  pub invocation : s.stores.work.part.next_invocation ≤ s.gate
   pub session : s.stores.work.part.session ≤ s.gate
 
 -- the world is that of the history, which is legal

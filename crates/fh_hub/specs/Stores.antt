@@ -23,8 +23,8 @@ use Rattle.fh_timers.specs.Outcome as timers
 use Rattle.fh_timers.specs.Runs.{run_of}
 use Rattle.fh_dispatch.specs.declared.done.WorkDone.{WorkDone}
 use Rattle.fh_dispatch.specs.Asks as work_asks
-use Rattle.fh_dispatch.specs.Part.{WorkPart, Others, no_work}
-use Rattle.fh_dispatch.specs.Queues.{asks_queues}
+use Rattle.fh_dispatch.specs.Asked.{asks_queues, asks_blobs, asks_leases}
+use Rattle.fh_dispatch.specs.Part.{WorkPart, Others, no_work, others_with}
 use Rattle.fh_dispatch.specs.Timers.{asks_timers}
 use Rattle.fh_dispatch.specs.Outcome as work
 
@@ -71,16 +71,22 @@ abbrev pub ready_by : ℕ → Option TimerRun → work_asks.Ask
 ready_by function None = work_asks.Nothing
 ready_by function (Some run) = work_asks.Ready function run
 
--- the timers and the queues are asked for what the work asks of them, and else for what the command does
+-- each store is asked for what the work asks of it, and else for what the command does
 abbrev pub asked_timers : Parts → Asks → TimerAsk
 asked_timers parts asks = unwrap_or (asks_timers parts.work asks.work) asks.timers
 
 -- the parts at which the work looks
 abbrev pub others_of : Parts → Others
-others_of parts = record { queues = parts.queues }
+others_of parts = others_with parts.queues parts.blobs parts.leases parts.timers
 
-abbrev pub asked_queues : Parts → Asks → queue_asks.Ask
-asked_queues parts asks = unwrap_or (asks_queues parts.work (others_of parts) asks.work) asks.queues
+abbrev pub asked_queues : Parts → Asks → ℕ → queue_asks.Ask
+asked_queues parts asks m = unwrap_or (asks_queues parts.work (others_of parts) asks.work m) asks.queues
+
+abbrev pub asked_blobs : Parts → Asks → ℕ → blob_asks.Ask
+asked_blobs parts asks m = unwrap_or (asks_blobs parts.work (others_of parts) asks.work m) asks.blobs
+
+abbrev pub asked_leases : Parts → Asks → ℕ → lease_asks.Ask
+asked_leases parts asks m = unwrap_or (asks_leases parts.work (others_of parts) asks.work m) asks.leases
 
 -- what all stores make, and what they answer, the work first, which asks others
 abbrev pub AllParts : Type 0
@@ -128,8 +134,9 @@ unfoldable pub outcomes : Parts → Asks → ℕ → Judged Parts Done
 outcomes parts asks m =
     joined (work.outcome parts.work (others_of parts) asks.work m)
     (timers.outcome parts.timers (asked_timers parts asks) m)
-    (queues.outcome parts.queues (asked_queues parts asks) m) (blobs.outcome parts.blobs asks.blobs m)
-    (leases.outcome parts.leases asks.leases m)
+    (queues.outcome parts.queues (asked_queues parts asks m) m)
+    (blobs.outcome parts.blobs (asked_blobs parts asks m) m)
+    (leases.outcome parts.leases (asked_leases parts asks m) m)
 
 -- what a store would be too full for
 unfoldable pub too_full : Parts → Asks → ℕ → Option Rule

@@ -1,12 +1,12 @@
 -- The due times of timers, by the events of a trace.
-use Rattle.std.specs.Prelude.{◌≡◌, ⊤, ℕ, ◌*◌, ◌≤◌, ◌==◌, nat_lt, Bool, true, ◌&&◌, if◌then◌else◌, List, fold, Option, Some, None, IfSome, pos}
+use Rattle.std.specs.Prelude.{◌≡◌, ℕ, ◌*◌, ◌≤◌, ◌==◌, nat_lt, Bool, true, ◌&&◌, if◌then◌else◌, List, fold, Option, Some, None, IfSome, pos}
 use Rattle.fh_event.specs.declared.command.Command.{Command}
 use Rattle.fh_event.specs.declared.command.Command.TheVariants.{Arm, Tick}
 use Rattle.fh_event.specs.declared.reply.Reply.{Reply}
 use Rattle.fh_event.specs.declared.reply.Reply.TheVariants.{PastDue, Ticked}
 use Rattle.fh_ncrontab.specs.Schedule.{is_in}
 use Rattle.fh_dispatch.specs.declared.timer.Timer.{Timer}
-use Rattle.fh_dispatch.specs.Ready.{runs_in}
+use Rattle.fh_dispatch.specs.InWork.{runs_in}
 use Rattle.fh_dispatch.specs.Timers.{timer_of}
 use Rattle.fh_hub.specs.Stores.{Parts}
 use Rattle.fh_hub.specs.Replay.{Entry, Event, trace, replay}
@@ -60,4 +60,4 @@ IsDueInTime e = IfSome (timer_in e.before.parts e.command) (λ timer. IfSome (du
 -- of the function of this number the due times rise, and one run at most is ready
 pub record RunsInTurn (history : List Entry) (f : ℕ) : Type 0 where
   pub rise : (due_times f (trace history)).rose ≡ true
-  pub one : runs_in f (replay history).parts.work.ready ≤ 1
+  pub one : runs_in f (replay history).parts.work ≤ 1

@@ -6,18 +6,22 @@ ghost use Rattle.fh_queues.specs.Outcome.{peeked};
 ghost use Rattle.fh_queues.specs.Outcome as queue_outcome;
 ghost use Rattle.fh_queues.specs.Faults.{IsFaultOf};
 ghost use Rattle.fh_queues.specs.Faults as queue_faults;
+ghost use Rattle.fh_blobs.specs.Faults as blob_faults;
+ghost use Rattle.fh_blobs.specs.Outcome as blob_outcome;
 ghost use Rattle.fh_blobs.specs.Part.{blob_of, unnoted};
+ghost use Rattle.fh_leases.specs.Faults as lease_faults;
+ghost use Rattle.fh_leases.specs.Outcome as lease_outcome;
 ghost use Rattle.fh_timers.specs.Edits as timer_edits;
 ghost use Rattle.fh_timers.specs.Outcome as timer_outcome;
-ghost use Rattle.fh_dispatch.specs.Faults.{IsQueuesPlanOf, IsTimersPlanOf};
+ghost use Rattle.fh_dispatch.specs.Faults.{IsQueuesPlanOf, IsBlobsPlanOf, IsLeasesPlanOf, IsTimersPlanOf};
 ghost use Rattle.fh_dispatch.specs.Asks.{GivesGoodMasks};
 ghost use Rattle.fh_dispatch.specs.Faults as work_faults;
 ghost use Rattle.fh_dispatch.specs.Outcome as work_outcome;
-ghost use Rattle.fh_dispatch.specs.Queues.{asks_queues};
-ghost use Rattle.fh_dispatch.specs.Ready.{is_busy};
+ghost use Rattle.fh_dispatch.specs.Asked.{asks_queues, asks_blobs, asks_leases};
+ghost use Rattle.fh_dispatch.specs.InWork.{is_busy};
 ghost use Rattle.fh_dispatch.specs.Timers.{asks_timers, timer_of};
 ghost use Rattle.fh_dispatch.specs.Part.{function_of};
-ghost use Rattle.fh_hub.specs.Stores.{Parts, others_of, no_parts, run_made, asked_queues, asked_timers, outcomes, too_full};
+ghost use Rattle.fh_hub.specs.Stores.{Parts, others_of, no_parts, run_made, asked_queues, asked_blobs, asked_leases, asked_timers, outcomes, too_full};
 ghost use Rattle.fh_hub.specs.StoreEdits.{parts_of, asks_of, done_of, planned, changed, answered, both_planned, IsPlanOf, made, made_done, IsOutcome, HasNumbers, IsIdle, IsStaged};
 
 use fh_base::{Moment, NoMemory, QueueName, Rule, Text};
@@ -160,7 +164,7 @@ impl Stores {
 
     /// Whether a job of a function is in work.
     pub(crate) fn is_busy(&self, function: u64) -> bool
-        ensures { result ≡ is_busy function self.now.work.part.ready }
+        ensures { result ≡ is_busy function self.now.work.part }
     {
         self.work.is_busy(function)
     }
@@ -192,15 +196,15 @@ impl Stores {
     {
         let WorkPlan {
             work,
-            queues: asked,
-            blobs: _,
-            leases: _,
+            queues,
+            blobs,
+            leases,
             timers,
         } = self.plan_work(alloc, asks, m)?;
         let timers = self.plan_timers(alloc, timers, asks, m);
-        let queues = self.plan_queues(alloc, asked, asks, m);
-        let blobs = self.blobs.plan(alloc, &asks.blobs, m);
-        let leases = self.leases.plan(alloc, &asks.leases, m);
+        let queues = self.plan_queues(alloc, queues, asks, m);
+        let blobs = self.plan_blobs(alloc, blobs, asks, m);
+        let leases = self.plan_leases(alloc, leases, asks, m);
         let held = both_planned(blobs, leases);
         let others = both_planned(queues, held);
         match both_planned(timers, others) {
@@ -227,7 +231,11 @@ impl Stores {
         ensures work { work_faults.IsPlanOf self.now.work.part
             (work_outcome.outcome self.now.work.part (others_of (parts_of self.now)) (asks_of asks.now).work m) result }
         ensures queues { IfOk result (λ plan. IsQueuesPlanOf self.now.queues.part
-            (asks_queues self.now.work.part (others_of (parts_of self.now)) (asks_of asks.now).work) m plan.queues) }
+            (asks_queues self.now.work.part (others_of (parts_of self.now)) (asks_of asks.now).work m) m plan.queues) }
+        ensures blobs { IfOk result (λ plan. IsBlobsPlanOf self.now.blobs.part
+            (asks_blobs self.now.work.part (others_of (parts_of self.now)) (asks_of asks.now).work m) m plan.blobs) }
+        ensures leases { IfOk result (λ plan. IsLeasesPlanOf self.now.leases.part
+            (asks_leases self.now.work.part (others_of (parts_of self.now)) (asks_of asks.now).work m) m plan.leases) }
         ensures timers { IfOk result (λ plan. IsTimersPlanOf self.now.timers.part
             (asks_timers self.now.work.part (asks_of asks.now).work) m plan.timers) }
         ensures masks { IfOk result (λ plan. GivesGoodMasks (asks_of asks.now).work) }
@@ -274,13 +282,54 @@ impl Stores {
         requires idle { IsIdle self.now }
         requires numbers { HasNumbers (parts_of self.now) }
         requires asked { IsQueuesPlanOf self.now.queues.part
-            (asks_queues self.now.work.part (others_of (parts_of self.now)) (asks_of asks.now).work) m asked }
+            (asks_queues self.now.work.part (others_of (parts_of self.now)) (asks_of asks.now).work m) m asked }
         ensures { queue_faults.IsPlanOf self.now.queues.part
-            (queue_outcome.outcome self.now.queues.part (asked_queues (parts_of self.now) (asks_of asks.now)) m) result }
+            (queue_outcome.outcome self.now.queues.part (asked_queues (parts_of self.now) (asks_of asks.now) m) m) result }
     {
         match asked {
             Some(change) => Ok(change),
             None => self.queues.plan(alloc, &asks.queues, m),
+        }
+    }
+
+    // What the blobs make of what the work asks of them, or else of what the command asks.
+    fn plan_blobs(
+        &self,
+        alloc: Global,
+        asked: Option<BlobChange>,
+        asks: &StoreAsks<'_>,
+        m: Moment,
+    ) -> Result<BlobChange, PlanFault>
+        requires idle { IsIdle self.now }
+        requires numbers { HasNumbers (parts_of self.now) }
+        requires asked { IsBlobsPlanOf self.now.blobs.part
+            (asks_blobs self.now.work.part (others_of (parts_of self.now)) (asks_of asks.now).work m) m asked }
+        ensures { blob_faults.IsPlanOf self.now.blobs.part
+            (blob_outcome.outcome self.now.blobs.part (asked_blobs (parts_of self.now) (asks_of asks.now) m) m) result }
+    {
+        match asked {
+            Some(change) => Ok(change),
+            None => self.blobs.plan(alloc, &asks.blobs, m),
+        }
+    }
+
+    // What the leases make of what the work asks of them, or else of what the command asks.
+    fn plan_leases(
+        &self,
+        alloc: Global,
+        asked: Option<LeaseChange>,
+        asks: &StoreAsks<'_>,
+        m: Moment,
+    ) -> Result<LeaseChange, PlanFault>
+        requires idle { IsIdle self.now }
+        requires asked { IsLeasesPlanOf self.now.leases.part
+            (asks_leases self.now.work.part (others_of (parts_of self.now)) (asks_of asks.now).work m) m asked }
+        ensures { lease_faults.IsPlanOf self.now.leases.part
+            (lease_outcome.outcome self.now.leases.part (asked_leases (parts_of self.now) (asks_of asks.now) m) m) result }
+    {
+        match asked {
+            Some(change) => Ok(change),
+            None => self.leases.plan(alloc, &asks.leases, m),
         }
     }
 

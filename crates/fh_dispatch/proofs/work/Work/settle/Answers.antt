@@ -10,6 +10,7 @@ act-requires c =
     record {
       room = omega (arith, c.loop-act.invariant.room, steps);
       job_room = omega (arith, c.loop-act.invariant.job_room, steps);
+      run_room = omega (arith, c.loop-act.invariant.run_room, steps);
       numbers = omega (arith, c.loop-act.invariant.numbers, steps);
       sessions = omega (arith, c.loop-act.invariant.sessions, steps);
     }
@@ -27,6 +28,7 @@ loop-act-preserved c =
       len = omega (arith, at.invariant.len, gone, short);
       room = omega (arith, at.invariant.room, c.act.ensures.room, short);
       job_room = omega (arith, at.invariant.job_room, c.act.ensures.job_room, short);
+      run_room = omega (arith, at.invariant.run_room, c.act.ensures.run_room, short);
       numbers = omega (arith, at.invariant.numbers, c.act.ensures.numbers, short);
       sessions = omega (arith, at.invariant.sessions, c.act.ensures.sessions, short);
     }

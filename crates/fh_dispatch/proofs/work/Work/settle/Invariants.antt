@@ -9,6 +9,7 @@ invariant-loop-act l = record {
   len : into_iter_len l.act-iterator ≡ length (into_iter_items l.act-iterator);
   room : length (into_iter_items l.act-iterator) ≤ l.self.room;
   job_room : length (into_iter_items l.act-iterator) ≤ l.self.job_room;
+  run_room : length (into_iter_items l.act-iterator) ≤ l.self.run_room;
   numbers : l.self.part.next_function + length (into_iter_items l.act-iterator) < 2 ^ 64;
   sessions : l.self.part.session + length (into_iter_items l.act-iterator) < 2 ^ 64;
 }

@@ -52,7 +52,7 @@ invariant_of-self g c =
     ∙ ap (λ (e : Entry). before.history ++ e ∷ []) (entry_is payload g.e c.requires.spelled) in
     let out = planned.outcome in
     let plain = plain_outcome (parts_of before.stores) parts did out in
-    let moves = moves_little before.stores.queues.part (asked_queues (parts_of before.stores) out.asks)
+    let moves = moves_little before.stores.queues.part (asked_queues (parts_of before.stores) out.asks out.moment)
     out.moment parts.queues did.queues (all_make (parts_of before.stores)
     out.asks out.moment parts did out.is).queues in
     let pushed : payloads_of new.history ≡ payloads_of before.history ++ payload ∷ [] = ap payloads_of grows
@@ -63,12 +63,12 @@ invariant_of-self g c =
     c.self.invariant.receipt (omega (
       arith,
       moves.receipt,
-      few_receipts (asked_queues (parts_of before.stores) out.asks) plain,
+      few_receipts (asked_queues (parts_of before.stores) out.asks out.moment) plain,
     )) in
     let versions = versions_within (parts_of before.stores) parts did before.gate (length payload)
     out c.self.invariant.version in
     let works = works_within (parts_of before.stores) parts did before.gate (length payload)
-    out c.self.invariant.function c.self.invariant.session in
+    out c.self.invariant.function c.self.invariant.invocation c.self.invariant.session in
     record {
       place = omega (
         arith,
@@ -83,13 +83,14 @@ invariant_of-self g c =
         arith,
         gate_is,
         moves.number,
-        few_numbers (asked_queues (parts_of before.stores) out.asks) plain,
+        few_numbers (asked_queues (parts_of before.stores) out.asks out.moment) plain,
         ap (λ (p : Parts). p.queues.next_number) parts_is,
         c.self.invariant.number,
       );
       receipt = rw gate_is (omega (arith, given, ap (λ (p : Parts). p.queues.next_receipt) parts_is));
       version = omega (arith, gate_is, versions, ap (λ (p : Parts). p.blobs.next_version) parts_is);
       function = omega (arith, gate_is, works.functions, ap (λ (p : Parts). p.work.next_function) parts_is);
+      invocation = omega (arith, gate_is, works.invocations, ap (λ (p : Parts). p.work.next_invocation) parts_is);
       session = omega (arith, gate_is, works.sessions, ap (λ (p : Parts). p.work.session) parts_is);
     }
 
