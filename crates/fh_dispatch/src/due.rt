@@ -1,11 +1,11 @@
 // Running invocations of which a hold is due.
 ghost use Rattle.std.specs.Prelude.{◌≡◌, ◌++◌, ◌∷◌, [], filter, option_copied, IfOk, OnOk};
 ghost use Rattle.fh_dispatch.specs.DueRuns.{due_with, dues_with};
-ghost use Rattle.fh_dispatch.specs.Holds.{lease_held, held_by};
+ghost use Rattle.fh_dispatch.specs.Holds.{lease_held};
 ghost use Rattle.fh_dispatch.specs.Renewals.{row_held, row_if_due, lease_if_due, unless_free, due_at, is_due, due_runs, row_due_next, lease_due_next, due_next};
 ghost use Rattle.fh_dispatch.specs.Stores.{others_of};
 
-use crate::holds::{EARLY, NEVER, held_row, message_due};
+use crate::holds::{EARLY, NEVER, held_lease, held_row, message_due};
 use crate::stores::Stores;
 use crate::terms::lease_name;
 use crate::{Job, Running, Work};
@@ -128,18 +128,7 @@ fn lease_held<'a>(
         ≡ lease_held leases.entry.now.part function.now invocation) }
 {
     let name = lease_name(alloc, function)?;
-    let found = leases.lease_of(name.as_str());
-    Ok(held_by(invocation, found))
-}
-
-fn held_by<'a>(holder: u64, lease: Option<&'a Lease>) -> Option<&'a Lease>
-    ensures { option_copied result ≡ held_by holder (option_copied lease.entry) }
-{
-    let lease = lease?;
-    if lease.holder == holder {
-        return Some(lease);
-    }
-    None
+    Ok(held_lease(leases, name.as_str(), invocation))
 }
 
 fn unless_free<'a>(seconds: u64, lease: Option<&'a Lease>) -> Option<&'a Lease>

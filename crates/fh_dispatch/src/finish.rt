@@ -1,15 +1,15 @@
 // How an invocation ends.
 ghost use Rattle.std.specs.Prelude.{◌≡◌, None, Some, option_copied, option_map, IfOk, IfErr};
 ghost use Rattle.fh_blobs.specs.Asks.{PutAll};
-ghost use Rattle.fh_leases.specs.Part.{lease_of};
 ghost use Rattle.fh_dispatch.specs.Edits.{HasNumbers};
 ghost use Rattle.fh_dispatch.specs.Effects.{queue_ask_of, lease_ask_of, ruling_of};
 ghost use Rattle.fh_dispatch.specs.Finish.{freeing, ending, storing, Succeeded, Broken, verdict_of, moving, releasing, finishing_row, finishing_timer, finishing_job, finish_of};
-ghost use Rattle.fh_dispatch.specs.Holds.{held_row, held_by, lease_held};
+ghost use Rattle.fh_dispatch.specs.Holds.{lease_held};
 ghost use Rattle.fh_dispatch.specs.Outputs.{each_output_rule};
 ghost use Rattle.fh_dispatch.specs.Stores.{others_of, AreReady};
 
 use crate::act::Act;
+use crate::holds::{held_lease, held_row};
 use crate::outputs::{blobs_of, outcome_rule, outputs_rule};
 use crate::rules::range_rule;
 use crate::ruling::{Effect, LeaseEffect, QueueEffect, Ruling};
@@ -19,8 +19,8 @@ use crate::{Job, Running, Terms, Work};
 use fh_base::{Moment, NoMemory, QueueName, Rule, SECONDS_OF_WEEK};
 use fh_blobs::NewBlob;
 use fh_event::{Outcome, Outputs, Reply};
-use fh_leases::{Lease, Leases};
-use fh_queues::{HeldMessage, Message, Queues};
+use fh_leases::Leases;
+use fh_queues::{HeldMessage, Message};
 use std::alloc::Global;
 
 const MILLISECONDS: u64 = 1000;
@@ -272,33 +272,11 @@ fn free(alloc: Global, leases: &Leases, run: &Running) -> Result<Option<LeaseEff
         ≡ freeing run.now (lease_held leases.now.part run.now.name run.now.invocation)) }
 {
     let name = lease_name(alloc, run.name.as_str())?;
-    match lease_held(leases, name.as_str(), run.invocation) {
+    match held_lease(leases, name.as_str(), run.invocation) {
         None => Ok(None),
         Some(_) => Ok(Some(LeaseEffect::Release {
             name,
             holder: run.invocation,
         })),
     }
-}
-
-// The lease of this name, where that is its last holder.
-fn lease_held<'a>(leases: &'a Leases, name: &str, holder: u64) -> Option<&'a Lease>
-    ensures { option_copied result ≡ held_by holder (lease_of name.now leases.entry.now.part.leases) }
-{
-    let lease = leases.lease_of(name)?;
-    if lease.holder == holder {
-        return Some(lease);
-    }
-    None
-}
-
-// The live message of this number, where it has this receipt.
-fn held_row<'a>(queues: &'a Queues, number: u64, receipt: u64, m: Moment) -> Option<&'a Message>
-    ensures { option_copied result ≡ held_row queues.entry.now.part number receipt m }
-{
-    let row = queues.row(number, m)?;
-    if row.receipt == receipt {
-        return Some(row);
-    }
-    None
 }

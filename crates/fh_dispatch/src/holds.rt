@@ -1,8 +1,10 @@
-// What a job holds: a message by its receipt.
+// What a job and an invocation hold: a message by its receipt, and a lease.
 ghost use Rattle.std.specs.Prelude.{◌≡◌, Some, option_copied};
-ghost use Rattle.fh_dispatch.specs.Holds.{hidden_at, held_row, message_due, never};
+ghost use Rattle.fh_leases.specs.Part.{lease_of};
+ghost use Rattle.fh_dispatch.specs.Holds.{held_by, hidden_at, held_row, message_due, never};
 
 use fh_base::Moment;
+use fh_leases::{Lease, Leases};
 use fh_queues::{Message, Queues};
 
 /// What holds nothing is never due.
@@ -38,4 +40,15 @@ pub(crate) fn message_due(row: &Message) -> u64
     ensures { result ≡ message_due (Some row.now) }
 {
     row.visible_at.saturating_sub(EARLY)
+}
+
+/// The lease of this name, where that is its last holder. Takes no memory.
+pub(crate) fn held_lease<'a>(leases: &'a Leases, name: &str, holder: u64) -> Option<&'a Lease>
+    ensures { option_copied result ≡ held_by holder (lease_of name.now leases.entry.now.part.leases) }
+{
+    let lease = leases.lease_of(name)?;
+    if lease.holder == holder {
+        return Some(lease);
+    }
+    None
 }
