@@ -8,8 +8,9 @@ use std::io::{self, ErrorKind};
 use std::process::{Child, Command, OpenProcess, Processes, Stdio};
 use std::rt::Stderr;
 
-/// Starts a worker as a process of the host, with its port in `FUNCTIONS_CUSTOMHANDLER_PORT`. What the
-/// worker writes goes to standard error. It tells nothing of the starts, and counts each error of the host.
+/// Starts a worker as a process of the host, with its port in `FUNCTIONS_CUSTOMHANDLER_PORT`, in the
+/// handler's working directory, or where the host runs if that is empty. What the worker writes goes to
+/// standard error. It tells nothing of the starts, and counts each error of the host.
 /// Where it goes out of scope it stops all workers, so that none outlives it.
 pub struct ProcessSpawner<P: Processes> {
     runtime: P,
@@ -115,7 +116,9 @@ fn started<P: Processes>(
         command.arg(argument.as_str())?;
     }
     command.env("FUNCTIONS_CUSTOMHANDLER_PORT", number.as_str())?;
-    command.current_dir(handler.directory.as_str())?;
+    if handler.directory.len() != 0 {
+        command.current_dir(handler.directory.as_str())?;
+    }
     command.stdin(Stdio::null());
     command.stdout(Stdio::from(*output));
     command.stderr(Stdio::from(*output));

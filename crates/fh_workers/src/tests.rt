@@ -233,6 +233,8 @@ fn a_worker_gets_its_port_and_ends_with_its_spawner(rt: HostRuntime) -> Result<(
     }
     fs::remove_dir_all(&rt, folder.as_str())?;
     let mut spawner = ProcessSpawner::new(rt, alloc, rt.stderr());
+    let anywhere = self::handler(alloc, "/bin/true", "", &[])?;
+    assert_eq!(rt; spawner.start(&anywhere, 7072), Ok(()));
     let missing = self::handler(alloc, "/tmp/none/handler", "/tmp", &[])?;
     assert_eq!(rt; spawner.start(&missing, 7072), Err(SpawnFault::Failed));
     Ok(())
