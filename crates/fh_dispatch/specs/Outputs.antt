@@ -1,9 +1,9 @@
 -- The rules of outputs, in order, and the blobs among them.
-use Rattle.std.specs.Prelude.{ℕ, nat_lt, nat_le, if◌then◌else◌, List, [], ◌∷◌, length, map, Option, Some, None}
+use Rattle.std.specs.Prelude.{ℕ, nat_lt, if◌then◌else◌, List, [], ◌∷◌, length, map, Option, Some, None}
 use Rattle.fh_base.specs.BlobNames.{is_blob_name}
 use Rattle.fh_base.specs.Names.{is_queue_name}
 use Rattle.fh_base.specs.declared.rule.Rule.{Rule}
-use Rattle.fh_base.specs.declared.rule.Rule.TheVariants.{BadName, TooLarge, OutOfRange}
+use Rattle.fh_base.specs.declared.rule.Rule.TheVariants.{BadName, TooLarge}
 use Rattle.fh_event.specs.declared.outcome.Outcome.{Outcome}
 use Rattle.fh_event.specs.declared.outcome.Outcome.TheVariants.{Failed, Done}
 use Rattle.fh_event.specs.declared.outcome.Output.{Output}
