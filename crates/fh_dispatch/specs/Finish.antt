@@ -75,7 +75,7 @@ moving others run message broken queue =
     ending others run (Some (queues.Poison message queue)) None
     (replies.JobPoisoned others.queues.next_number broken)
 
--- another one is released, for a week at most
+-- another one is released, unless its delay is more than a week, which the queues refuse too
 abbrev pub releasing : Others → ℕ → ℕ → Running → HeldMessage → Option ℕ → Ruling
 releasing others m retry run message broken =
     unless_refused (range_rule retry 0 seconds_of_week)

@@ -93,6 +93,7 @@ fn finish_row<'a>(
     }
 }
 
+// A success stores its outputs where they keep the rules; else the message is moved or released.
 fn finish_by<'a>(
     alloc: Global,
     stores: Stores<'_>,
@@ -119,6 +120,7 @@ fn finish_by<'a>(
     }
 }
 
+// A run of a timer has no message.
 fn finish_timer<'a>(
     alloc: Global,
     stores: Stores<'_>,
@@ -212,7 +214,7 @@ fn poison<'a>(
     )
 }
 
-// Another message that failed is visible again after a delay, of a week at most.
+// Another message that failed is visible again after a delay. The queues hide none for more than a week.
 fn release<'a>(
     alloc: Global,
     stores: Stores<'_>,
