@@ -51,14 +51,21 @@ fn done(
     let Ok(plan) = planned else {
         return Err(Fail::from("refused"));
     };
-    if plan.work.is_quiet() {
-        return Ok(plan.work.into_done());
+    let WorkPlan {
+        work,
+        queues: _,
+        blobs: _,
+        leases,
+        timers: _,
+    } = plan;
+    if work.is_quiet() {
+        return Ok(work.into_done());
     }
-    if let Some(change) = plan.leases {
+    if let Some(change) = leases {
         let staged = host.leases.stage(change)?;
         host.leases.settle(staged);
     }
-    let staged = host.work.stage(plan.work)?;
+    let staged = host.work.stage(work)?;
     Ok(host.work.settle(staged))
 }
 
